@@ -1,0 +1,49 @@
+-- The fresh file, as the writer spells it: a header, a free table without lists, and the root alone.
+use Rattle.std.specs.Prelude.{ℕ, ◌+◌, Bool, List, [], ◌∷◌, ◌++◌, replicate, codes, Some}
+use Rattle.adf_format.specs.Pointer.{Blank, To}
+use Rattle.adf_format.specs.Fields.{text_field}
+use Rattle.adf_format.specs.declared.types.Format.{Format}
+use Rattle.adf_format.specs.Tree.{fresh_root}
+use Rattle.adf_format.specs.Parts.{version_letter, dimension_digits, node_length}
+use Rattle.adf_format.specs.Placement.{Placement}
+use Rattle.adf_format.specs.HeapRule.{no_parts}
+use Rattle.adf_format.specs.Records.{HeaderRecord, NodeRecord, header_text, free_table_text, node_text}
+
+-- the last byte: 511, or 607 in a wide file
+abbrev pub fresh_end : Bool → ℕ
+fresh_end wide = 265 + node_length wide
+
+abbrev pub fresh_header : Bool → HeaderRecord
+fresh_header wide = record {
+  what = codes "@(#)ADF Database Version " ++ version_letter wide ++ codes "02007>";
+  created = replicate 28 32;
+  modified = replicate 28 32;
+  format = Format.Little;
+  size_letter = codes "L";
+  sizes = replicate 24 48;
+  root = To 266;
+  end = To (fresh_end wide);
+  free_table = To 186;
+  extra = codes "000000001000";
+}
+
+abbrev pub fresh_node : Bool → NodeRecord
+fresh_node wide = record {
+  name = text_field 32 fresh_root.name;
+  label = text_field 32 fresh_root.label;
+  children = 0;
+  entries = 0;
+  table = Blank;
+  kind = fresh_root.kind;
+  rank = 0;
+  dims = replicate 12 (replicate (dimension_digits wide) 48);
+  chunks = 0;
+  chunk = Blank;
+}
+
+-- the bytes up to the last one
+unfoldable pub fresh_text : Bool → List ℕ
+fresh_text wide = header_text (fresh_header wide) ++ free_table_text (replicate 6 Blank) ++ node_text (fresh_node wide)
+
+abbrev pub fresh_placement : Bool → Placement
+fresh_placement wide = record { parts = Some (record no_parts { header = 266 }) ∷ []; heap = record { gaps = []; end = fresh_end wide } }

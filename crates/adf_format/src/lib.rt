@@ -1,0 +1,11 @@
+//! The file format: the plain types that its definitions name, and, in `specs/`, what a file means.
+
+#![tactic(auto)]
+
+pub mod laws;
+mod lists;
+mod types;
+pub mod writes;
+
+pub use lists::Listing;
+pub use types::{DataType, Extent, ExtentKind, Extents, Format};
