@@ -1,0 +1,5 @@
+use Rattle.adf_model.proofs.TreeOrder.{listed_once}
+use Rattle.adf_model.proofs.tree_laws.tree_order_lists_once.Goals as goal
+
+pub returns : goal.returns
+returns c = listed_once

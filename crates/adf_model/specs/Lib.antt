@@ -1,0 +1,16 @@
+pub mod Shapes
+pub mod Spelling
+pub mod Tests
+pub mod Selection
+pub mod Edits
+pub mod Need
+pub mod Placing
+pub mod Untouched
+pub mod NodeData
+pub mod Slots
+pub mod Follow
+pub mod Calls
+pub mod Answers
+pub mod Steps
+pub mod Costs
+pub mod Creation
