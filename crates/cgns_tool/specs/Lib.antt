@@ -1,0 +1,4 @@
+pub mod Fresh
+pub mod Printed
+pub mod Shelf
+pub mod Tool
