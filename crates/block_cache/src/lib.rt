@@ -1,0 +1,13 @@
+//! A device with copies of the blocks that were used last.
+//!
+//! A block that is kept is read without the device, in constant time. A write goes to the device first, so that a block
+//! that is kept is never newer than the device. The memory is bounded by the capacity.
+#![tactic(auto)]
+
+mod cache;
+mod entries;
+
+pub use cache::BlockCache;
+
+#[cfg(test)]
+mod tests;

@@ -1,0 +1,11 @@
+-- What a draft is made of.
+use Rattle.std.specs.Prelude.{ℕ, List}
+use Rattle.block_draft.specs.declared.draft.Draft.{Draft}
+
+-- the blocks below a draft
+abbrev pub blocks_below : {B : Type 0} → Draft B → B
+blocks_below draft = draft.blocks
+
+-- its changed blocks by their numbers, ascending
+abbrev pub changes_in : {B : Type 0} → Draft B → List (ℕ × List ℕ)
+changes_in draft = draft.changed
