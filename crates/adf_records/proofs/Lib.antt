@@ -1,0 +1,6 @@
+pub mod TextLaws
+pub mod RowGroups
+pub mod Pieces
+pub mod Respelling
+pub mod Rereading
+pub mod Places
