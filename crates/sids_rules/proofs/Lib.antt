@@ -1,0 +1,4 @@
+pub mod Padding
+pub mod Passes
+pub mod Codes
+pub mod Ranges

@@ -1,0 +1,4 @@
+pub mod Zones
+pub mod Arrays
+pub mod Sections
+pub mod Words
