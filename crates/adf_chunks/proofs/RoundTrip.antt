@@ -144,11 +144,18 @@ behind_tag : {A : Type 0} (t : Bool) (o : Option A) (x : A) → (if t then o els
 behind_tag true o x e = (refl, e)
 behind_tag false o x e = cc
 
-pub head_written : HeadIsWrittenAgain
-head_written part bytes p long e =
+head_spelled : (part : Part) (bytes : List ℕ) (p : DiskPtr) → length bytes ≡ 16 → head_said (part_of part) bytes ≡ Some (view p)
+    → head_text (part_of part) (view p) ≡ take 4 bytes ++ (map upper (field bytes 4 12) ++ [])
+head_spelled part bytes p long e =
     let said = behind_tag (holds bytes 0 (start_tag (part_of part))) (pointer (field bytes 4 12)) (view p) e in
     ap (λ t. t ++ pointer_text (view p)) (sym (tag_of (part_of part) bytes said.0))
     ∙ ap (λ t. take 4 bytes ++ t) (pointer_upper (field bytes 4 12) (view p) (field_long bytes 4 12 (omega (arith, long))) said.1 ∙ sym (append-nil (map upper (field bytes 4 12))))
+
+pub head_written : HeadIsWrittenAgain
+head_written SubNodes bytes p long e = head_spelled SubNodes bytes p long e
+head_written Data bytes p long e = head_spelled Data bytes p long e
+head_written Chunks bytes p long e = head_spelled Chunks bytes p long e
+head_written Free bytes p long e = head_spelled Free bytes p long e
 
 -- two pointers in a row, from an offset on
 two_upper : (bytes : List ℕ) (offset : ℕ) (p q : Pointer) → offset + 24 ≤ length bytes → pointer (field bytes offset 12) ≡ Some p → pointer (field bytes (offset + 12) 12) ≡ Some q

@@ -7,7 +7,10 @@ use Rattle.adf_chunks.specs.declared.Part.{Part}
 use Rattle.adf_chunks.specs.declared.FreeHead.{FreeHead}
 use Rattle.adf_chunks.specs.declared.NodeEntry.{NodeEntry}
 use Rattle.adf_chunks.specs.declared.ChunkEntry.{ChunkEntry}
-use Rattle.adf_format.specs.Case.{in_upper_case, head_fields, free_head_fields, entry_fields, chunk_entry_fields}
+use Rattle.adf_format.specs.declared.fields.TheConstants.{ENTRY_NAME, HEAD_LENGTH, FREE_HEAD_LENGTH, ENTRY_LENGTH, CHUNK_ENTRY_LENGTH}
+use Rattle.adf_format.specs.RecordFields.{head_fields, free_head_fields, entry_fields, chunk_entry_fields}
+use Rattle.adf_format.specs.Records.{start_field}
+use Rattle.adf_format.specs.Case.{in_upper_case, letters_in}
 use Rattle.adf_chunks.specs.View.{part_of, free_view, HasFreeOffsets, entry_view, chunk_view, HasChunkOffsets, head_said, free_head_said, entry_said, chunk_entry_said}
 
 -- ---- what a reader may answer of a written text is the value that was written
@@ -21,7 +24,7 @@ FreeHeadIsReadAgain = (h : FreeHead) (read : Option FreeHead) → IsWritable h.e
     → option_map free_view read ≡ free_head_said (free_head_text (view h.end_tag) (view h.next)) → IfSome read HasFreeOffsets → read ≡ Some h
 
 abbrev pub EntryIsReadAgain : Type 0
-EntryIsReadAgain = (e : NodeEntry) (read : Option NodeEntry) → length e.name ≡ 32 → IsWritable e.child
+EntryIsReadAgain = (e : NodeEntry) (read : Option NodeEntry) → length e.name ≡ ENTRY_NAME.length → IsWritable e.child
     → option_map entry_view read ≡ entry_said (entry_text e.name (view e.child)) → IfSome read (λ r. HasOffset r.child) → read ≡ Some e
 
 abbrev pub ChunkEntryIsReadAgain : Type 0
@@ -31,17 +34,17 @@ ChunkEntryIsReadAgain = (e : ChunkEntry) (read : Option ChunkEntry) → IsWritab
 -- ---- what is written of a value that was read are the bytes, with the letters of pointers in upper case
 
 abbrev pub HeadIsWrittenAgain : Type 0
-HeadIsWrittenAgain = (part : Part) (bytes : List ℕ) (p : DiskPtr) → length bytes ≡ 16
-    → head_said (part_of part) bytes ≡ Some (view p) → head_text (part_of part) (view p) ≡ in_upper_case head_fields bytes
+HeadIsWrittenAgain = (part : Part) (bytes : List ℕ) (p : DiskPtr) → length bytes ≡ HEAD_LENGTH
+    → head_said (part_of part) bytes ≡ Some (view p) → head_text (part_of part) (view p) ≡ in_upper_case (letters_in (head_fields (start_field (part_of part)))) bytes
 
 abbrev pub FreeHeadIsWrittenAgain : Type 0
-FreeHeadIsWrittenAgain = (bytes : List ℕ) (h : FreeHead) → length bytes ≡ 28
-    → free_head_said bytes ≡ Some (free_view h) → free_head_text (view h.end_tag) (view h.next) ≡ in_upper_case free_head_fields bytes
+FreeHeadIsWrittenAgain = (bytes : List ℕ) (h : FreeHead) → length bytes ≡ FREE_HEAD_LENGTH
+    → free_head_said bytes ≡ Some (free_view h) → free_head_text (view h.end_tag) (view h.next) ≡ in_upper_case (letters_in free_head_fields) bytes
 
 abbrev pub EntryIsWrittenAgain : Type 0
-EntryIsWrittenAgain = (bytes : List ℕ) (e : NodeEntry) → length bytes ≡ 44
-    → entry_said bytes ≡ Some (entry_view e) → entry_text e.name (view e.child) ≡ in_upper_case entry_fields bytes
+EntryIsWrittenAgain = (bytes : List ℕ) (e : NodeEntry) → length bytes ≡ ENTRY_LENGTH
+    → entry_said bytes ≡ Some (entry_view e) → entry_text e.name (view e.child) ≡ in_upper_case (letters_in entry_fields) bytes
 
 abbrev pub ChunkEntryIsWrittenAgain : Type 0
-ChunkEntryIsWrittenAgain = (bytes : List ℕ) (e : ChunkEntry) → length bytes ≡ 24
-    → chunk_entry_said bytes ≡ Some (chunk_view e) → chunk_entry_text (view e.start) (view e.end_tag) ≡ in_upper_case chunk_entry_fields bytes
+ChunkEntryIsWrittenAgain = (bytes : List ℕ) (e : ChunkEntry) → length bytes ≡ CHUNK_ENTRY_LENGTH
+    → chunk_entry_said bytes ≡ Some (chunk_view e) → chunk_entry_text (view e.start) (view e.end_tag) ≡ in_upper_case (letters_in chunk_entry_fields) bytes

@@ -1,7 +1,9 @@
 -- What the heads and entries in code say.
-use Rattle.std.specs.Prelude.{List, ℕ, if◌then◌else◌, Option, None, option_map, take}
+use Rattle.std.specs.Prelude.{List, ℕ, if◌then◌else◌, Option, None, option_map}
 use Rattle.std.specs.Option.{option_zip}
-use Rattle.adf_format.specs.Fields.{field, holds}
+use Rattle.adf_format.specs.Fields.{holds}
+use Rattle.adf_format.specs.declared.fields.TheConstants.{HEAD_POINTER, FREE_NEXT, ENTRY_NAME, ENTRY_CHILD, CHUNK_START, CHUNK_END}
+use Rattle.adf_format.specs.RecordFields.{field_in}
 use Rattle.adf_format.specs.Pointer.{Pointer, pointer}
 use Rattle.adf_format.specs.Records.{start_tag}
 use Rattle.adf_format.specs.Records as format
@@ -41,13 +43,13 @@ HasChunkOffsets e = HasOffset e.start × HasOffset e.end_tag
 
 -- a start tag, and the pointer to the end tag
 abbrev pub head_said : format.Part → List ℕ → Option Pointer
-head_said part bytes = if holds bytes 0 (start_tag part) then pointer (field bytes 4 12) else None
+head_said part bytes = if holds bytes 0 (start_tag part) then pointer (field_in bytes HEAD_POINTER) else None
 
 abbrev pub free_head_said : List ℕ → Option (Pointer × Pointer)
-free_head_said bytes = if holds bytes 0 (start_tag format.Free) then option_zip (pointer (field bytes 4 12)) (pointer (field bytes 16 12)) else None
+free_head_said bytes = if holds bytes 0 (start_tag format.Free) then option_zip (pointer (field_in bytes HEAD_POINTER)) (pointer (field_in bytes FREE_NEXT)) else None
 
 abbrev pub entry_said : List ℕ → Option (List ℕ × Pointer)
-entry_said bytes = option_map (λ p. (take 32 bytes, p)) (pointer (field bytes 32 12))
+entry_said bytes = option_map (λ p. (field_in bytes ENTRY_NAME, p)) (pointer (field_in bytes ENTRY_CHILD))
 
 abbrev pub chunk_entry_said : List ℕ → Option (Pointer × Pointer)
-chunk_entry_said bytes = option_zip (pointer (field bytes 0 12)) (pointer (field bytes 12 12))
+chunk_entry_said bytes = option_zip (pointer (field_in bytes CHUNK_START)) (pointer (field_in bytes CHUNK_END))

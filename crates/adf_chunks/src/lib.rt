@@ -7,16 +7,21 @@
 
 #![tactic(auto)]
 
-ghost use Rattle.std.specs.Prelude.{◌≡◌, ◌↔◌, IsTrue, ◌+◌, ◌≤◌, ◌++◌, length, take, Some, None, IfSome, option_map};
-ghost use Rattle.adf_format.specs.Fields.{field, holds};
-ghost use Rattle.adf_format.specs.Pointer.{pointer, pointer_text};
+ghost use Rattle.std.specs.Prelude.{◌≡◌, ◌↔◌, IsTrue, ◌≤◌, length, Some, None, IfSome, option_map};
+ghost use Rattle.adf_format.specs.Fields.{holds};
 ghost use Rattle.adf_format.specs.Records.{start_tag, end_tag as closing_tag, head_text, free_head_text, entry_text, chunk_entry_text};
 ghost use Rattle.adf_chunks.specs.Laws.{HeadIsReadAgain, FreeHeadIsReadAgain, EntryIsReadAgain, ChunkEntryIsReadAgain, HeadIsWrittenAgain, FreeHeadIsWrittenAgain, EntryIsWrittenAgain, ChunkEntryIsWrittenAgain};
 ghost use Rattle.disk_ptr.specs.View.{view, HasOffset};
 ghost use Rattle.adf_chunks.specs.View.{part_of, free_view, HasFreeOffsets, entry_view, chunk_view, HasChunkOffsets, head_said, free_head_said, entry_said, chunk_entry_said};
 
+use adf_format::fields::{
+    CHUNK_END, CHUNK_START, CHUNKS_END, CHUNKS_TAG, DATA_END, DATA_TAG, ENTRY_CHILD, ENTRY_NAME,
+    FREE_CHUNK_END, FREE_CHUNK_TAG, FREE_NEXT, HEAD_POINTER, SUB_NODES_END, SUB_NODES_TAG,
+    tag_text,
+};
 pub use adf_format::{Extent, ExtentKind, Extents};
-use disk_ptr::{DiskPtr, decode, encode};
+use disk_ptr::DiskPtr;
+use disk_ptr::fields::{copied, holds, pointer_at, put, put_pointer};
 
 /// A part of a file that stands between two tags.
 #[derive(Clone, Copy, Debug, PartialEq, Eq)]
@@ -60,10 +65,10 @@ fn start_tag(part: Part) -> [u8; 4]
     ensures { result ≡ start_tag (part_of part) }
 {
     match part {
-        Part::SubNodes => *b"SNTb",
-        Part::Data => *b"DaTa",
-        Part::Chunks => *b"DCtb",
-        Part::Free => *b"FreE",
+        Part::SubNodes => tag_text(SUB_NODES_TAG),
+        Part::Data => tag_text(DATA_TAG),
+        Part::Chunks => tag_text(CHUNKS_TAG),
+        Part::Free => tag_text(FREE_CHUNK_TAG),
     }
 }
 
@@ -72,10 +77,10 @@ pub fn tail(part: Part) -> [u8; 4]
     ensures { result ≡ closing_tag (part_of part) }
 {
     match part {
-        Part::SubNodes => *b"snTE",
-        Part::Data => *b"dEnD",
-        Part::Chunks => *b"dcTE",
-        Part::Free => *b"EndC",
+        Part::SubNodes => tag_text(SUB_NODES_END),
+        Part::Data => tag_text(DATA_END),
+        Part::Chunks => tag_text(CHUNKS_END),
+        Part::Free => tag_text(FREE_CHUNK_END),
     }
 }
 
@@ -86,37 +91,12 @@ pub fn is_tail(part: Part, bytes: &[u8; 4]) -> bool
     *bytes == tail(part)
 }
 
-// ---- fields
-
-// Whether the bytes begin with the start tag of the part.
-fn begins(part: Part, bytes: &[u8]) -> bool
+/// Whether the bytes begin with the start tag of the part.
+pub fn begins(part: Part, bytes: &[u8]) -> bool
     requires { 4 ≤ length bytes.now }
     ensures { result ≡ holds bytes.now 0 (start_tag (part_of part)) }
 {
-    &bytes[..4] == start_tag(part).as_slice()
-}
-
-// The pointer at an offset.
-fn pointer_at(bytes: &[u8], offset: usize) -> Option<DiskPtr>
-    requires { offset + 12 ≤ length bytes.now }
-    ensures value { option_map view result ≡ pointer (field bytes.now offset 12) }
-    ensures offset { IfSome result HasOffset }
-{
-    let mut text = [0u8; 12];
-    text.copy_from_slice(&bytes[offset..offset + 12]);
-    decode(&text)
-}
-
-// Writes a piece behind what is written, and says where it ends.
-fn put(into: &mut [u8], at: usize, piece: &[u8]) -> usize
-    requires { at + length piece.now ≤ length into.old }
-    ensures end { result ≡ at + length piece.now }
-    ensures long { length into.new ≡ length into.old }
-    ensures text { take result into.new ≡ take at into.old ++ piece.now }
-{
-    let end = at + piece.len();
-    into[at..end].copy_from_slice(piece);
-    end
+    holds(bytes, 0, &start_tag(part))
 }
 
 // ---- heads
@@ -130,7 +110,7 @@ pub fn decode_head(part: Part, bytes: &[u8; 16]) -> Option<DiskPtr>
     if !begins(part, bytes) {
         return None;
     }
-    pointer_at(bytes, 4)
+    pointer_at(bytes, HEAD_POINTER)
 }
 
 /// The head of a part.
@@ -140,7 +120,7 @@ pub fn encode_head(part: Part, end_tag: DiskPtr) -> [u8; 16]
 {
     let mut text = [0u8; 16];
     let at = put(&mut text, 0, &start_tag(part));
-    put(&mut text, at, &encode(end_tag));
+    put_pointer(&mut text, at, end_tag);
     text
 }
 
@@ -152,7 +132,10 @@ pub fn decode_free_head(bytes: &[u8; 28]) -> Option<FreeHead>
     if !begins(Part::Free, bytes) {
         return None;
     }
-    match (pointer_at(bytes, 4), pointer_at(bytes, 16)) {
+    match (
+        pointer_at(bytes, HEAD_POINTER),
+        pointer_at(bytes, FREE_NEXT),
+    ) {
         (Some(end_tag), Some(next)) => Some(FreeHead { end_tag, next }),
         _ => None,
     }
@@ -165,8 +148,8 @@ pub fn encode_free_head(head: FreeHead) -> [u8; 28]
 {
     let mut text = [0u8; 28];
     let at = put(&mut text, 0, &start_tag(Part::Free));
-    let at = put(&mut text, at, &encode(head.end_tag));
-    put(&mut text, at, &encode(head.next));
+    let at = put_pointer(&mut text, at, head.end_tag);
+    put_pointer(&mut text, at, head.next);
     text
 }
 
@@ -177,10 +160,11 @@ pub fn decode_entry(bytes: &[u8; 44]) -> Option<NodeEntry>
     ensures value { option_map entry_view result ≡ entry_said bytes.now }
     ensures offset { IfSome result (λ e. HasOffset e.child) }
 {
-    let child = pointer_at(bytes, 32)?;
-    let mut name = [0u8; 32];
-    name.copy_from_slice(&bytes[..32]);
-    Some(NodeEntry { name, child })
+    let child = pointer_at(bytes, ENTRY_CHILD)?;
+    Some(NodeEntry {
+        name: copied(bytes, ENTRY_NAME),
+        child,
+    })
 }
 
 /// The bytes of an entry of a table of children.
@@ -190,7 +174,7 @@ pub fn encode_entry(entry: &NodeEntry) -> [u8; 44]
 {
     let mut text = [0u8; 44];
     let at = put(&mut text, 0, &entry.name);
-    put(&mut text, at, &encode(entry.child));
+    put_pointer(&mut text, at, entry.child);
     text
 }
 
@@ -199,7 +183,7 @@ pub fn decode_chunk_entry(bytes: &[u8; 24]) -> Option<ChunkEntry>
     ensures value { option_map chunk_view result ≡ chunk_entry_said bytes.now }
     ensures offset { IfSome result HasChunkOffsets }
 {
-    match (pointer_at(bytes, 0), pointer_at(bytes, 12)) {
+    match (pointer_at(bytes, CHUNK_START), pointer_at(bytes, CHUNK_END)) {
         (Some(start), Some(end_tag)) => Some(ChunkEntry { start, end_tag }),
         _ => None,
     }
@@ -211,8 +195,8 @@ pub fn encode_chunk_entry(entry: ChunkEntry) -> [u8; 24]
     ensures { result ≡ chunk_entry_text (view entry.start) (view entry.end_tag) }
 {
     let mut text = [0u8; 24];
-    let at = put(&mut text, 0, &encode(entry.start));
-    put(&mut text, at, &encode(entry.end_tag));
+    let at = put_pointer(&mut text, 0, entry.start);
+    put_pointer(&mut text, at, entry.end_tag);
     text
 }
 

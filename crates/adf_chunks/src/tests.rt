@@ -1,5 +1,7 @@
 //! Heads, tails and entries by hand.
 
+ghost use Rattle.std.specs.Prelude.{◌<◌};
+
 use super::*;
 
 const PARTS: [(Part, &[u8; 4], &[u8; 4]); 4] = [
@@ -35,12 +37,119 @@ fn each_part_has_its_own_tags(rt: HostRuntime) {
         );
         assert_eq!(rt; decode_head(part, &head_of(start, b"000000001001")), None);
         assert_eq!(rt; decode_head(part, &head_of(end, b"ABCDEF010FFF")), None);
+        assert!(rt; begins(part, start));
+        assert!(rt; !begins(part, end));
         assert_eq!(rt; tail(part), *end);
         assert!(rt; is_tail(part, end));
         assert!(rt; !is_tail(part, start));
     }
     assert_eq!(rt; decode_head(Part::Data, b"DaTA000000000FFF"), None);
     assert!(rt; !is_tail(Part::SubNodes, b"dcTE"));
+}
+
+// A byte that no tag has in the place of one byte of the tag.
+fn with_byte_wrong(tag: &[u8; 4], i: usize) -> [u8; 4]
+    requires { i < 4 }
+{
+    let mut wrong = *tag;
+    wrong[i] = b'_';
+    wrong
+}
+
+#[test]
+fn each_byte_of_a_tag_is_compared(rt: HostRuntime) {
+    for (part, start, end) in PARTS {
+        for i in 0..4 {
+            let bytes = head_of(&with_byte_wrong(start, i), b"ABCDEF010FFF");
+            assert_eq!(rt; decode_head(part, &bytes), None);
+            assert!(rt; !is_tail(part, &with_byte_wrong(end, i)));
+        }
+    }
+    assert_eq!(rt; decode_free_head(b"_reE000000000466000000001000"), None);
+    assert_eq!(rt; decode_free_head(b"Fre_000000000466000000001000"), None);
+}
+
+#[test]
+fn an_offset_is_at_most_4095_in_each_field(rt: HostRuntime) {
+    let near = DiskPtr::At {
+        block: 0,
+        offset: 4095,
+    };
+    let blank = DiskPtr::Blank;
+    assert_eq!(rt; decode_head(Part::Data, b"DaTa000000000FFF"), Some(near));
+    assert_eq!(rt; decode_head(Part::Data, b"DaTa000000001000"), Some(blank));
+    assert_eq!(rt; decode_head(Part::Data, b"DaTa000000001001"), None);
+    assert_eq!(rt; decode_head(Part::Data, b"DaTa000000011000"), None);
+    let head = FreeHead {
+        end_tag: blank,
+        next: near,
+    };
+    assert_eq!(rt;
+        decode_free_head(b"FreE000000001000000000000fFf"),
+        Some(head)
+    );
+    assert_eq!(rt; encode_free_head(head), *b"FreE000000001000000000000FFF");
+    assert_eq!(rt; decode_free_head(b"FreE000000001001000000000FFF"), None);
+    assert_eq!(rt; decode_free_head(b"FreE000000000FFF000000011000"), None);
+    let start_blank = ChunkEntry {
+        start: blank,
+        end_tag: near,
+    };
+    assert_eq!(rt;
+        decode_chunk_entry(b"000000001000000000000FFF"),
+        Some(start_blank)
+    );
+    assert_eq!(rt;
+        encode_chunk_entry(start_blank),
+        *b"000000001000000000000FFF"
+    );
+    let end_blank = ChunkEntry {
+        start: near,
+        end_tag: blank,
+    };
+    assert_eq!(rt;
+        decode_chunk_entry(b"000000000fff000000001000"),
+        Some(end_blank)
+    );
+    assert_eq!(rt; encode_chunk_entry(end_blank), *b"000000000FFF000000001000");
+    assert_eq!(rt; decode_chunk_entry(b"000000001001000000000FFF"), None);
+    assert_eq!(rt; decode_chunk_entry(b"000000000FFF000000011000"), None);
+}
+
+#[test]
+fn a_child_is_pointed_to_or_not(rt: HostRuntime) {
+    let entry = NodeEntry {
+        name: *b"Base                            ",
+        child: DiskPtr::Blank,
+    };
+    assert_eq!(rt;
+        decode_entry(b"Base                            000000001000"),
+        Some(entry)
+    );
+    assert_eq!(rt;
+        encode_entry(&entry),
+        *b"Base                            000000001000"
+    );
+    let last = NodeEntry {
+        child: LAST,
+        ..entry
+    };
+    assert_eq!(rt;
+        decode_entry(b"Base                            aBcDeF010fFf"),
+        Some(last)
+    );
+    assert_eq!(rt;
+        encode_entry(&last),
+        *b"Base                            ABCDEF010FFF"
+    );
+    assert_eq!(rt;
+        decode_entry(b"Base                            000000001001"),
+        None
+    );
+    assert_eq!(rt;
+        decode_entry(b"Base                            000000011000"),
+        None
+    );
 }
 
 // The free chunk of 372 bytes at place 758, the only one of its list.

@@ -18,7 +18,7 @@ use Rattle.adf_format.proofs.FrameLaws.{field_kept, holds_kept}
 
 -- ---- extents that end by the recorded end
 
-abbrev AllLong : List Extent → Type 0
+abbrev pub AllLong : List Extent → Type 0
 AllLong xs = AllByRecursion (λ (e : Extent). 0 < e.length) xs
 
 -- extents with bytes, none of them behind the end
@@ -32,7 +32,7 @@ all_within end (x ∷ xs) long none = ((λ b low high. refl, last), all_within e
       | inr h ↦ absurd (let some : 0 < x.length = long.0 in omega (arith, some, h))
     ]
 
-long_append : (xs ys : List Extent) → AllLong xs → AllLong ys → AllLong (xs ++ ys)
+pub long_append : (xs ys : List Extent) → AllLong xs → AllLong ys → AllLong (xs ++ ys)
 long_append [] ys h k = k
 long_append (x ∷ xs) ys h k = (h.0, long_append xs ys h.1 k)
 
@@ -40,11 +40,11 @@ long_table : (table : Option TablePart) → AllLong (table_extents table)
 long_table None = tt
 long_table (Some t) = (omega arith, tt)
 
-long_chunk_table : (table : Option ℕ) (count : ℕ) → AllLong (chunk_table_extents table count)
+pub long_chunk_table : (table : Option ℕ) (count : ℕ) → AllLong (chunk_table_extents table count)
 long_chunk_table None count = tt
 long_chunk_table (Some place) count = (omega arith, tt)
 
-long_chunks : (image : List ℕ) (chunks : List ChunkPart) → AllByRecursion (λ (c : ChunkPart). SpellsChunk (field image c.place c.length) c.place c.length) chunks → AllLong (chunk_extents chunks)
+pub long_chunks : (image : List ℕ) (chunks : List ChunkPart) → AllByRecursion (λ (c : ChunkPart). SpellsChunk (field image c.place c.length) c.place c.length) chunks → AllLong (chunk_extents chunks)
 long_chunks image [] h = tt
 long_chunks image (c ∷ cs) h = (let long : 21 ≤ c.length = h.0.long in omega (arith, long), long_chunks image cs h.1)
 
@@ -52,7 +52,7 @@ long_header : (wide : Bool) → 0 < node_length wide
 long_header false = omega arith
 long_header true = omega arith
 
-long_node : (image : List ℕ) (tree : Tree) (p : Placement) (node : Node) (parts : NodeParts) → HoldsNode image tree p node parts → AllLong (node_extents tree.wide parts)
+pub long_node : (image : List ℕ) (tree : Tree) (p : Placement) (node : Node) (parts : NodeParts) → HoldsNode image tree p node parts → AllLong (node_extents tree.wide parts)
 long_node image tree p node parts h = (
   long_header tree.wide,
   long_append (table_extents parts.table ++ chunk_table_extents parts.chunk_table (length parts.chunks)) (chunk_extents parts.chunks)
@@ -80,7 +80,7 @@ count_append place n (x ∷ xs) ys =
     let here = cond ((x.place == place) && (x.length == n)) 1 0 in
     ap (λ k. here + k) (count_append place n xs ys) ∙ sym (add_assoc here (count_of place n xs) (count_of place n ys))
 
-counts_itself : (e : Extent) (es : List Extent) → 0 < count_of e.place e.length (e ∷ es)
+pub counts_itself : (e : Extent) (es : List Extent) → 0 < count_of e.place e.length (e ∷ es)
 counts_itself e es = one_more (e.place == e.place) (e.length == e.length) (grind (arith, nat_tests)) (grind (arith, nat_tests))
   where
     one_more : (a b : Bool) → a ≡ true → b ≡ true → 0 < cond (a && b) 1 0 + count_of e.place e.length es

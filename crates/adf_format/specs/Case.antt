@@ -1,5 +1,7 @@
 -- Letters of hexadecimal fields in upper case.
-use Rattle.std.specs.Prelude.{ℕ, ◌-◌, nat_le, Bool, true, false, cond, ◌&&◌, if◌then◌else◌, List, [], ◌∷◌, ◌++◌, map, take, drop}
+use Rattle.std.specs.Prelude.{ℕ, ◌-◌, nat_le, Bool, cond, ◌&&◌, ◌||◌, if◌then◌else◌, List, [], ◌∷◌, ◌++◌, map, take, drop}
+use Rattle.adf_format.specs.declared.fields.Field.{Field}
+use Rattle.adf_format.specs.RecordFields.{is_number_field, is_pointer_field}
 
 -- a digit of either case as the writer spells it: `a` to `f` are 97 to 102
 abbrev pub upper : ℕ → ℕ
@@ -11,14 +13,6 @@ abbrev pub in_upper_case : List (ℕ × Bool) → List ℕ → List ℕ
 in_upper_case [] bytes = []
 in_upper_case (f ∷ fields) bytes = cond f.1 (map upper (take f.0 bytes)) (take f.0 bytes) ++ in_upper_case fields (drop f.0 bytes)
 
-abbrev pub head_fields : List (ℕ × Bool)
-head_fields = (4, false) ∷ (12, true) ∷ []
-
-abbrev pub free_head_fields : List (ℕ × Bool)
-free_head_fields = (4, false) ∷ (12, true) ∷ (12, true) ∷ []
-
-abbrev pub entry_fields : List (ℕ × Bool)
-entry_fields = (32, false) ∷ (12, true) ∷ []
-
-abbrev pub chunk_entry_fields : List (ℕ × Bool)
-chunk_entry_fields = (12, true) ∷ (12, true) ∷ []
+-- the fields of a record as this list: those that are read as a number or as a pointer are hexadecimal
+abbrev pub letters_in : List Field → List (ℕ × Bool)
+letters_in fields = map (λ (f : Field). (f.length, is_number_field f || is_pointer_field f)) fields

@@ -4,6 +4,7 @@ use Rattle.std.specs.List.{AllByRecursion}
 use Rattle.adf_format.specs.declared.types.Extent.{Extent}
 use Rattle.adf_format.specs.declared.types.ExtentKind.{ExtentKind}
 use Rattle.adf_format.specs.Fields.{field}
+use Rattle.adf_format.specs.declared.fields.TheConstants.{HEADER_END, FREE_TABLE_LENGTH, FREE_TABLE_PLACE}
 use Rattle.adf_format.specs.Tree.{Tree, Node, node_at}
 use Rattle.adf_format.specs.Tiles.{cover, end_of, MeetsNone}
 use Rattle.adf_format.specs.Placement.{Placement, NodeParts, extent, parts_of}
@@ -14,7 +15,7 @@ KeepsBut ranges end old new = (b : ℕ) → b ≤ end → cover ranges b ≡ 0 �
 
 -- the end pointer and the free table, which the heap alone writes
 abbrev pub heap_fields : List Extent
-heap_fields = extent ExtentKind.Header 146 12 ∷ extent ExtentKind.FreeTable 186 80 ∷ []
+heap_fields = extent ExtentKind.Header HEADER_END.offset HEADER_END.length ∷ extent ExtentKind.FreeTable FREE_TABLE_PLACE FREE_TABLE_LENGTH ∷ []
 
 -- a text stands in the new bytes at a place, and each other byte of the old ones is as before
 pub record Writes (place : ℕ) (text old new : List ℕ) : Type 0 where

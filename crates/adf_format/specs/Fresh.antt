@@ -2,9 +2,11 @@
 use Rattle.std.specs.Prelude.{ℕ, ◌+◌, Bool, List, [], ◌∷◌, ◌++◌, replicate, codes, Some}
 use Rattle.adf_format.specs.Pointer.{Blank, To}
 use Rattle.adf_format.specs.Fields.{text_field}
+use Rattle.adf_format.specs.declared.fields.TheConstants.{HEADER_CREATED, HEADER_MODIFIED, HEADER_SIZES, PRODUCT, CLOSING, FREE_TABLE_PLACE, NODE_NAME, NODE_LABEL}
+use Rattle.adf_format.specs.RecordFields.{dimension_digits, node_length}
 use Rattle.adf_format.specs.declared.types.Format.{Format}
 use Rattle.adf_format.specs.Tree.{fresh_root}
-use Rattle.adf_format.specs.Parts.{version_letter, dimension_digits, node_length}
+use Rattle.adf_format.specs.Parts.{version_letter}
 use Rattle.adf_format.specs.Placement.{Placement}
 use Rattle.adf_format.specs.HeapRule.{no_parts}
 use Rattle.adf_format.specs.Records.{HeaderRecord, NodeRecord, header_text, free_table_text, node_text}
@@ -15,22 +17,22 @@ fresh_end wide = 265 + node_length wide
 
 abbrev pub fresh_header : Bool → HeaderRecord
 fresh_header wide = record {
-  what = codes "@(#)ADF Database Version " ++ version_letter wide ++ codes "02007>";
-  created = replicate 28 32;
-  modified = replicate 28 32;
+  what = PRODUCT ++ version_letter wide ++ codes "02007" ++ CLOSING;
+  created = replicate HEADER_CREATED.length 32;
+  modified = replicate HEADER_MODIFIED.length 32;
   format = Format.Little;
   size_letter = codes "L";
-  sizes = replicate 24 48;
+  sizes = replicate HEADER_SIZES.length 48;
   root = To 266;
   end = To (fresh_end wide);
-  free_table = To 186;
+  free_table = To FREE_TABLE_PLACE;
   extra = codes "000000001000";
 }
 
 abbrev pub fresh_node : Bool → NodeRecord
 fresh_node wide = record {
-  name = text_field 32 fresh_root.name;
-  label = text_field 32 fresh_root.label;
+  name = text_field NODE_NAME.length fresh_root.name;
+  label = text_field NODE_LABEL.length fresh_root.label;
   children = 0;
   entries = 0;
   table = Blank;

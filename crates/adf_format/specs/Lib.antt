@@ -1,6 +1,7 @@
 pub mod Hex
 pub mod Pointer
 pub mod Fields
+pub mod RecordFields
 pub mod Names
 pub mod Links
 pub mod Tree

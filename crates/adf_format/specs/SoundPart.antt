@@ -2,7 +2,10 @@
 use Rattle.std.specs.Prelude.{◌≡◌, ℕ, Bool, true, false, ◌&&◌, suc, ◌+◌, ◌-◌, min, cond, ◌==◌, List, [], ◌∷◌, ◌++◌, length, map, take, option_map, Option, Some, None}
 use Rattle.std.specs.List.{filter_map, flat_map}
 use Rattle.std.specs.Str.{bytes_eq}
-use Rattle.adf_format.specs.Fields.{field, holds, text_at, trimmed}
+use Rattle.adf_format.specs.Fields.{field, holds, trimmed}
+use Rattle.adf_format.specs.Parts.{format_letter}
+use Rattle.adf_format.specs.declared.fields.TheConstants.{HEADER_FORMAT, HEADER_LENGTH, NODE_NAME, NODE_LABEL, NODE_TYPE}
+use Rattle.adf_format.specs.RecordFields.{field_in, at_place}
 use Rattle.adf_format.specs.declared.types.Format.{Format}
 use Rattle.adf_format.specs.Names.{data_size}
 use Rattle.adf_format.specs.Tree.{Tree, Node}
@@ -25,12 +28,12 @@ data_when count bytes = cond (count == 0) None (Some bytes)
 abbrev pub node_of_visit : List ℕ → Bool → List Visit → Visit → Node
 node_of_visit image wide visits v =
     let p = v.place in
-    let kind = type_or_mt (field image (p + 96) 32) in
+    let kind = type_or_mt (field_in image (at_place p NODE_TYPE)) in
     let dims = dims_in image wide p in
     let chunks = chunks_in image wide p in
     record {
-      name = text_at image (p + 4) 32;
-      label = text_at image (p + 36) 32;
+      name = trimmed (field_in image (at_place p NODE_NAME));
+      label = trimmed (field_in image (at_place p NODE_LABEL));
       kind = kind;
       dims = dims;
       bytes = data_when (length chunks) (take (data_size kind dims) (payloads_in image chunks));
@@ -38,7 +41,7 @@ node_of_visit image wide visits v =
     }
 
 abbrev pub format_in : List ℕ → Format
-format_in image = cond (holds image 100 (66 ∷ [])) Format.Big Format.Little
+format_in image = cond (holds image HEADER_FORMAT.offset (format_letter Format.Big)) Format.Big Format.Little
 
 -- the tree that the visits make, numbered in their order
 abbrev pub tree_of : List ℕ → List Visit → Tree
@@ -70,5 +73,5 @@ names_to kept v = flat_map (λ (w : Visit). cond (is_above w.path v.path) (entry
 -- The sound part of an image: its header keeps rules 1 to 7, and of the nodes in tree order those that break
 -- a rule are left out with all below them.
 pub record IsSoundPart (image : List ℕ) (kept : List Visit) (left : List (Visit × Fault)) : Type 0 where
-  pub header : first_broken (row_of_length image ∷ header_rows (field image 0 186)) ≡ None
+  pub header : first_broken (row_of_length image ∷ header_rows (field image 0 HEADER_LENGTH)) ≡ None
   pub survey : Survey (visit_rows image (is_wide image) (last_byte image)) (child_visits image) (root_visit image ∷ []) [] [] (kept, left)

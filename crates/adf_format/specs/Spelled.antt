@@ -4,8 +4,10 @@ use Rattle.std.specs.List.{flat_map}
 use Rattle.adf_format.specs.Hex.{hex_value, is_hex}
 use Rattle.adf_format.specs.Pointer.{Pointer, Blank, To}
 use Rattle.adf_format.specs.Fields.{field, text_field}
+use Rattle.adf_format.specs.declared.fields.TheConstants.{HEADER_WHAT, HEADER_CREATED, HEADER_MODIFIED, HEADER_SIZE_LETTER, HEADER_SIZES, HEADER_EXTRA, HEADER_SIZE, WHAT_PRODUCT, WHAT_VERSION, WHAT_CLOSING, PRODUCT, CLOSING, FREE_TABLE_PLACE, NODE_NAME, NODE_LABEL, NODE_CHILDREN, NODE_ENTRIES, NODE_CHUNKS, HEAD_LENGTH}
+use Rattle.adf_format.specs.RecordFields.{field_in, dimension_digits}
 use Rattle.adf_format.specs.declared.types.Format.{Format}
-use Rattle.adf_format.specs.Parts.{NodeFields, dimension_digits, version_letter}
+use Rattle.adf_format.specs.Parts.{NodeFields, version_letter}
 use Rattle.adf_format.specs.Records.{HeaderRecord, NodeRecord, Part, head_text, end_tag}
 
 -- the pointer to a place, or the blank one
@@ -24,33 +26,33 @@ AllWide width texts = (i : ℕ) (text : List ℕ) → slice_get texts i ≡ Some
 
 -- a record of the file header says this, and its fields have their lengths
 pub record SaysHeader (h : HeaderRecord) (wide : Bool) (format : Format) (root end : ℕ) : Type 0 where
-  pub long : length h.what ≡ 32
-  pub what : field h.what 0 25 ≡ codes "@(#)ADF Database Version "
-  pub letter : field h.what 25 1 ≡ version_letter wide
-  pub what_end : field h.what 31 1 ≡ codes ">"
-  pub created : length h.created ≡ 28
-  pub modified : length h.modified ≡ 28
+  pub long : length h.what ≡ HEADER_WHAT.length
+  pub what : field_in h.what WHAT_PRODUCT ≡ PRODUCT
+  pub letter : field_in h.what WHAT_VERSION ≡ version_letter wide
+  pub what_end : field_in h.what WHAT_CLOSING ≡ CLOSING
+  pub created : length h.created ≡ HEADER_CREATED.length
+  pub modified : length h.modified ≡ HEADER_MODIFIED.length
   pub numbers : h.format ≡ format
-  pub size_letter : length h.size_letter ≡ 1
-  pub twelve : length h.sizes ≡ 24
-  pub sizes : (k : ℕ) → k < 12 → IsTrue (is_hex (field h.sizes (2 * k) 2))
+  pub size_letter : length h.size_letter ≡ HEADER_SIZE_LETTER.length
+  pub twelve : length h.sizes ≡ HEADER_SIZES.length
+  pub sizes : (k : ℕ) → k < 12 → IsTrue (is_hex (field h.sizes (HEADER_SIZE.length * k) HEADER_SIZE.length))
   pub root_pointer : h.root ≡ To root
   pub root_in_reach : root < 2 ^ 44
   pub end_pointer : h.end ≡ To end
   pub end_in_reach : end < 2 ^ 44
-  pub free_table : h.free_table ≡ To 186
-  pub extra : length h.extra ≡ 12
+  pub free_table : h.free_table ≡ To FREE_TABLE_PLACE
+  pub extra : length h.extra ≡ HEADER_EXTRA.length
 
 -- a record of a node header says this, and its fields have their lengths
 pub record SaysNode (wide : Bool) (r : NodeRecord) (node : NodeFields) : Type 0 where
-  pub name : r.name ≡ text_field 32 node.name
-  pub long_name : length r.name ≡ 32
-  pub label : r.label ≡ text_field 32 node.label
-  pub long_label : length r.label ≡ 32
+  pub name : r.name ≡ text_field NODE_NAME.length node.name
+  pub long_name : length r.name ≡ NODE_NAME.length
+  pub label : r.label ≡ text_field NODE_LABEL.length node.label
+  pub long_label : length r.label ≡ NODE_LABEL.length
   pub children : r.children ≡ node.children
-  pub few_children : r.children < 16 ^ 8
+  pub few_children : r.children < 16 ^ NODE_CHILDREN.length
   pub entries : r.entries ≡ node.entries
-  pub few_entries : r.entries < 16 ^ 8
+  pub few_entries : r.entries < 16 ^ NODE_ENTRIES.length
   pub table : r.table ≡ pointer_to node.table
   pub table_in_reach : IsInReach node.table
   pub kind : r.kind ≡ node.kind
@@ -60,7 +62,7 @@ pub record SaysNode (wide : Bool) (r : NodeRecord) (node : NodeFields) : Type 0 
   pub long_dims : AllWide (dimension_digits wide) r.dims
   pub dims : (i d : ℕ) (text : List ℕ) → slice_get node.dims i ≡ Some d → slice_get r.dims i ≡ Some text → hex_value text ≡ Some d
   pub chunks : r.chunks ≡ node.chunks
-  pub few_chunks : r.chunks < 16 ^ 4
+  pub few_chunks : r.chunks < 16 ^ NODE_CHUNKS.length
   pub chunk : r.chunk ≡ pointer_to node.chunk
   pub chunk_in_reach : IsInReach node.chunk
 
@@ -79,4 +81,4 @@ in_row (text ∷ texts) = text ++ in_row texts
 
 -- a part at a place: its head, which points to its end tag, its body, and the end tag
 abbrev pub framed_text : Part → ℕ → List ℕ → List ℕ
-framed_text part place body = head_text part (To (place + 16 + length body)) ++ body ++ end_tag part
+framed_text part place body = head_text part (To (place + HEAD_LENGTH + length body)) ++ body ++ end_tag part

@@ -1,6 +1,6 @@
 //! Laws of the definitions. Each is the contract of a function that does nothing: who calls it has the law.
 
-ghost use Rattle.std.specs.Prelude.{◌≡◌, ◌≢◌, ◌⊎◌, ℕ, ◌+◌, ◌^◌, ◌<◌, ◌≤◌, Bool, IsTrue, List, [], ◌∷◌, ◌++◌, length, take, drop, filter, codes, slice_get, is_some, Some, Ok};
+ghost use Rattle.std.specs.Prelude.{◌≡◌, ◌≢◌, ◌⊎◌, ℕ, ◌+◌, ◌*◌, ◌^◌, ◌<◌, ◌≤◌, Bool, true, false, IsTrue, List, [], ◌∷◌, ◌++◌, length, map, take, drop, filter, codes, slice_get, is_some, Some, Ok};
 ghost use Rattle.std.specs.List.{list_all};
 ghost use Rattle.std.specs.declared.result.Result.{Result};
 ghost use Rattle.adf_format.specs.Hex.{hex_value, hex_text};
@@ -13,9 +13,11 @@ ghost use Rattle.adf_format.specs.Tiles.{Tiles, TilesInOrder, cover, total_lengt
 ghost use Rattle.adf_format.specs.Tree.{Tree, Node, IsTree, IsSameTree, IsAmong, is_live, fresh_tree};
 ghost use Rattle.adf_format.specs.Placement.{Placement, NodeParts, Heap, extent, parts_of, node_extents, head_extents, live_extents};
 ghost use Rattle.adf_format.specs.Fields.{field};
+ghost use Rattle.adf_format.specs.RecordFields.{StandInRow, field_end, header_fields, what_fields, header_size, free_table_fields, list_end, list_first, list_last, node_fields, node_length, head_fields, free_head_fields, entry_fields, chunk_entry_fields, entry_name_at, entry_child_at, chunk_start_at, chunk_end_at};
+ghost use Rattle.adf_format.specs.declared.fields.TheConstants.{HEADER_WHAT, HEADER_SIZES, HEADER_LENGTH, FREE_TABLE_LENGTH, FREE_TABLE_PLACE, SMALL_FIRST, SMALL_LAST, MEDIUM_FIRST, MEDIUM_LAST, LARGE_FIRST, LARGE_LAST, SUB_NODES_TAG, DATA_TAG, CHUNKS_TAG, FREE_CHUNK_TAG, HEAD_LENGTH, FREE_HEAD_LENGTH, ENTRY_LENGTH, CHUNK_ENTRY_LENGTH};
 ghost use Rattle.adf_format.specs.LaysOut.{LaysOut, HoldsNode, AreGapsInOrder};
 ghost use Rattle.adf_format.specs.Checks.{Fault};
-ghost use Rattle.adf_format.specs.FirstFault.{Visit, FreeVisit, NodeWalk, FreeWalk, FirstFault, HasNoFault, end_in, is_wide};
+ghost use Rattle.adf_format.specs.FirstFault.{count_up, Visit, FreeVisit, NodeWalk, FreeWalk, FirstFault, HasNoFault, end_in, is_wide};
 ghost use Rattle.adf_format.specs.SoundPart.{format_in};
 ghost use Rattle.adf_format.specs.Verdict.{NodePlace, IsLaidOutAs};
 ghost use Rattle.adf_format.specs.Packed.{IsPacked};
@@ -24,6 +26,34 @@ ghost use Rattle.adf_format.specs.declared.types.Format.{Format};
 ghost use Rattle.adf_format.specs.HeapRule.{heap_take, heap_give, pairs};
 ghost use Rattle.adf_format.specs.Changes.{KeepsBut, AllApart, SameChildren};
 ghost use Rattle.adf_format.specs.Fresh.{fresh_text, fresh_end, fresh_placement};
+
+/// The fields of each record stand one behind the other from its first byte to its last, without a gap or an
+/// overlap, and each is as long as what it holds.
+pub fn fields_in_a_row()
+    ensures header { StandInRow 0 header_fields HEADER_LENGTH }
+    ensures what { StandInRow 0 what_fields HEADER_WHAT.length }
+    ensures sizes { StandInRow HEADER_SIZES.offset (map header_size (count_up 12)) (field_end HEADER_SIZES) }
+    ensures free_table { StandInRow 0 free_table_fields FREE_TABLE_LENGTH }
+    ensures list_ends { map (list_end 0) (count_up 6) ≡ SMALL_FIRST ∷ SMALL_LAST ∷ MEDIUM_FIRST ∷ MEDIUM_LAST ∷ LARGE_FIRST ∷ LARGE_LAST ∷ [] }
+    ensures lists { (place k : ℕ) → (list_first place k ≡ list_end place (2 * k)) × (list_last place k ≡ list_end place (2 * k + 1)) }
+    ensures node { (wide : Bool) → StandInRow 0 (node_fields wide) (node_length wide) }
+    ensures head { StandInRow 0 (head_fields SUB_NODES_TAG) HEAD_LENGTH × StandInRow 0 (head_fields DATA_TAG) HEAD_LENGTH
+        × StandInRow 0 (head_fields CHUNKS_TAG) HEAD_LENGTH × StandInRow 0 (head_fields FREE_CHUNK_TAG) HEAD_LENGTH }
+    ensures free_head { StandInRow 0 free_head_fields FREE_HEAD_LENGTH }
+    ensures entry { StandInRow 0 entry_fields ENTRY_LENGTH }
+    ensures chunk_entry { StandInRow 0 chunk_entry_fields CHUNK_ENTRY_LENGTH }
+    ensures entries { (place i : ℕ) → StandInRow (place + HEAD_LENGTH + ENTRY_LENGTH * i) (entry_name_at place i ∷ entry_child_at place i ∷ []) (place + HEAD_LENGTH + ENTRY_LENGTH * (i + 1)) }
+    ensures chunk_entries { (place i : ℕ) → StandInRow (place + HEAD_LENGTH + CHUNK_ENTRY_LENGTH * i) (chunk_start_at place i ∷ chunk_end_at place i ∷ []) (place + HEAD_LENGTH + CHUNK_ENTRY_LENGTH * (i + 1)) }
+{}
+
+/// How long the records are: the file header 186 bytes, the free table behind it 80, a node 246 or 342, a head 16, and
+/// entries 44 and 24.
+pub fn record_lengths()
+    ensures header { HEADER_LENGTH ≡ 186 }
+    ensures free_table { (FREE_TABLE_PLACE ≡ 186) × (FREE_TABLE_LENGTH ≡ 80) }
+    ensures node { (node_length false ≡ 246) × (node_length true ≡ 342) }
+    ensures parts { (HEAD_LENGTH ≡ 16) × (FREE_HEAD_LENGTH ≡ 28) × (ENTRY_LENGTH ≡ 44) × (CHUNK_ENTRY_LENGTH ≡ 24) }
+{}
 
 /// Extents that follow one another tile a file, and extents that tile a file are together as long as it.
 pub fn tiles_add_up()

@@ -2,6 +2,7 @@
 
 #![tactic(auto)]
 
+pub mod fields;
 pub mod laws;
 mod lists;
 mod types;

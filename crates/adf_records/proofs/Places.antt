@@ -8,9 +8,10 @@ use Rattle.adf_format.specs.Hex.{is_hex}
 use Rattle.adf_format.specs.Names.{is_mt}
 use Rattle.adf_format.specs.Pointer.{is_pointer, is_blank}
 use Rattle.adf_format.specs.Parts.{type_of}
+use Rattle.adf_format.specs.RecordFields.{free_table_fields}
 use Rattle.adf_format.specs.Checks.{Row, row, Fault, first_broken}
 use Rattle.adf_format.specs.Fields.{field, number}
-use Rattle.adf_format.specs.FirstFault.{tag_row, dimension_row, has_type, type_or_mt, is_pointer_for, count_up, free_table_rows, node_rows, text_rows, number_rows, pointer_rows, shape_rows}
+use Rattle.adf_format.specs.FirstFault.{tag_rows, dimension_row, has_type, type_or_mt, is_pointer_for, count_up, free_table_rows, node_rows, text_rows, number_rows, pointer_rows, shape_rows}
 use Rattle.adf_records.specs.Laws.{placed, NodeFaultIsPlaced, FreeFaultIsPlaced}
 
 abbrev pub moved : ℕ → Row → Row
@@ -85,9 +86,9 @@ unfolding free_table_rows
 moved_free base bytes =
     let pointers : ℕ → ℕ → Row = λ b k. row 10 (b + 4 + 12 * k) (is_pointer (field bytes (4 + 12 * k) 12)) in
     let pairs : ℕ → ℕ → Row = λ b k. row 11 (b + 4 + 24 * k) (beq (is_blank (field bytes (4 + 24 * k) 12)) (is_blank (field bytes (16 + 24 * k) 12))) in
-    ap (λ rows. tag_row 9 base bytes 0 (codes "fCbt") ∷ tag_row 9 base bytes 76 (codes "Fcte") ∷ rows ++ map (pairs base) (count_up 3))
+    ap (λ rows. tag_rows 9 base bytes free_table_fields ++ rows ++ map (pairs base) (count_up 3))
     (moved_map base (pointers base) (pointers 0) 0 6 (λ k. row_at 10 (base + 4 + 12 * k) (base + (0 + 4 + 12 * k)) (is_pointer (field bytes (4 + 12 * k) 12)) (omega arith)))
-    ∙ ap (λ rows. tag_row 9 base bytes 0 (codes "fCbt") ∷ tag_row 9 base bytes 76 (codes "Fcte") ∷ map (moved base) (map (pointers 0) (count_up 6)) ++ rows)
+    ∙ ap (λ rows. tag_rows 9 base bytes free_table_fields ++ map (moved base) (map (pointers 0) (count_up 6)) ++ rows)
     (moved_map base (pairs base) (pairs 0) 0 3 (λ k. row_at 11 (base + 4 + 24 * k) (base + (0 + 4 + 24 * k)) (beq (is_blank (field bytes (4 + 24 * k) 12)) (is_blank (field bytes (16 + 24 * k) 12))) (omega arith)))
 
 pub free_placed : FreeFaultIsPlaced

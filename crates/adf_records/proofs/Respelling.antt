@@ -15,9 +15,10 @@ use Rattle.adf_format.specs.Records.{pointer_in, header_record, header_text, fre
 use Rattle.adf_format.specs.SoundPart.{format_in}
 use Rattle.adf_format.proofs.RowLaws.{holds_tells, node_spelled, read_node}
 use Rattle.adf_format.proofs.WalkLaws.{all_kept}
-use Rattle.adf_format.specs.Case.{upper}
+use Rattle.adf_format.specs.Case.{upper, letters_in}
 use Rattle.adf_format.proofs.CaseLaws.{pointer_upper}
-use Rattle.adf_records.specs.Laws.{header_fields, free_table_fields, HeaderIsWrittenAgain, FreeIsWrittenAgain, NodeIsWrittenAgain}
+use Rattle.adf_format.specs.RecordFields.{header_fields, free_table_fields}
+use Rattle.adf_records.specs.Laws.{HeaderIsWrittenAgain, FreeIsWrittenAgain, NodeIsWrittenAgain}
 use Rattle.adf_records.proofs.Pieces.{joined, behind, behind-joined, Respells, at_end, kept_as_found, as_found, in_upper, kept_each, field_long, number_written, pointer_written}
 
 -- ---- the node header
@@ -133,7 +134,7 @@ free_written bytes long e =
     let p4 = p3.1 in
     let p5 = p4.1 in
     let p6 = p5.1 in
-    let r : Respells free_table_fields bytes 0
+    let r : Respells (letters_in free_table_fields) bytes 0
     (codes "fCbt" ++ (pointer_text (pointer_in bytes 4) ++ (pointer_text (pointer_in bytes 16) ++ (pointer_text (pointer_in bytes 28) ++ (pointer_text (pointer_in bytes 40)
     ++ (pointer_text (pointer_in bytes 52) ++ (pointer_text (pointer_in bytes 64) ++ (codes "Fcte" ++ []))))))))
     = as_found (codes "fCbt") 0 4 (sym (holds_tells bytes 0 (codes "fCbt") k.0))
@@ -173,7 +174,7 @@ header_written bytes long e =
     let t6 = t5.1 in
     let format = t6.1 in
     let places = format.1.1.1.1.1.1.1.1.1.1.1.1.1 in
-    let r : Respells header_fields bytes 0
+    let r : Respells (letters_in header_fields) bytes 0
     (field bytes 0 32 ++ (codes "AdF0" ++ (field bytes 36 28 ++ (codes "AdF1" ++ (field bytes 68 28 ++ (codes "AdF2" ++ (format_letter (format_in bytes) ++ (field bytes 101 1
     ++ (codes "AdF3" ++ (field bytes 106 24 ++ (codes "AdF4" ++ (pointer_text (pointer_in bytes 134) ++ (pointer_text (pointer_in bytes 146) ++ (pointer_text (pointer_in bytes 158)
     ++ (field bytes 170 12 ++ (codes "AdF5" ++ []))))))))))))))))

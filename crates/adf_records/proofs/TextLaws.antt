@@ -1,10 +1,9 @@
 -- The end of a text.
-use Rattle.std.proofs.Common.{◌≡◌, ◌≢◌, ℕ, zero, suc, ◌+◌, ◌^◌, ◌≤◌, ◌<◌, List, [], ◌∷◌, ◌++◌, length, take, refl, ap, sym, ◌∙◌, arith, get_or}
+use Rattle.std.proofs.Common.{◌≡◌, ◌≢◌, ℕ, zero, suc, ◌+◌, ◌≤◌, List, [], ◌∷◌, ◌++◌, length, take, refl, ap, sym, ◌∙◌, arith, get_or}
 use Rattle.std.specs.Prelude.{◌==◌, false}
 use Rattle.adf_format.specs.Fields.{trimmed, before_text}
 use Rattle.adf_format.specs.Names.{ends_with_space}
 use Rattle.std.proofs.Math.Seq.{take-suc}
-use Rattle.std.proofs.Math.Nat.{pow-succ'}
 use Rattle.std.proofs.lemmas.Bool.Decides.{nat_tests}
 
 pub trimmed-space : (xs : List ℕ) → trimmed (xs ++ 32 ∷ []) ≡ trimmed xs
@@ -38,8 +37,3 @@ ends_last (x ∷ []) zero h = refl
 ends_last (x ∷ []) (suc i) h = absurd (omega (arith, h))
 ends_last (x ∷ y ∷ xs) zero h = absurd (omega (arith, h))
 ends_last (x ∷ y ∷ xs) (suc i) h = ends_last (y ∷ xs) i (omega (arith, h))
-
--- nothing is below a power
-pub some_power : (n : ℕ) → 0 < 16 ^ n
-some_power zero = omega arith
-some_power (suc n) = omega (arith, some_power n, pow-succ' 16 n)

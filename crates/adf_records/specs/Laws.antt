@@ -1,44 +1,30 @@
 -- Reading and writing undo each other.
-use Rattle.std.specs.Prelude.{◌≡◌, ℕ, ◌+◌, ◌^◌, ◌<◌, Bool, true, false, List, [], ◌∷◌, ◌++◌, length, replicate, Some, None, Result, Ok, IfOk, IfErr, option_map}
+use Rattle.std.specs.Prelude.{◌≡◌, ℕ, ◌+◌, ◌^◌, ◌<◌, Bool, true, List, length, Some, None, Result, Ok, IfOk, IfErr, option_map}
 use Rattle.std.specs.List.{AllByRecursion}
 use Rattle.adf_format.specs.Checks.{Fault, first_broken}
 use Rattle.adf_format.specs.FirstFault.{header_rows, free_table_rows, node_rows}
-use Rattle.adf_format.specs.Parts.{node_length, dimension_digits}
+use Rattle.adf_format.specs.declared.fields.TheConstants.{HEADER_WHAT, HEADER_CREATED, HEADER_MODIFIED, HEADER_SIZES, HEADER_EXTRA, HEADER_LENGTH, FREE_TABLE_LENGTH, NODE_NAME, NODE_LABEL}
+use Rattle.adf_format.specs.RecordFields.{header_fields, free_table_fields, node_fields, node_length}
 use Rattle.adf_format.specs.Records.{header_record, header_text, free_table_record, free_table_text, node_record, node_text}
 use Rattle.disk_ptr.specs.View.{IsWritable}
-use Rattle.adf_format.specs.Case.{in_upper_case}
+use Rattle.adf_format.specs.Case.{in_upper_case, letters_in}
 use Rattle.adf_records.specs.declared.BadField.{BadField}
 use Rattle.adf_records.specs.declared.FileHeader.{FileHeader}
 use Rattle.adf_records.specs.declared.FreeTable.{FreeTable}
 use Rattle.adf_records.specs.declared.NodeHeader.{NodeHeader}
 use Rattle.adf_records.specs.View.{fault, header_of, HasHeaderOffsets, pointers_of, HasFreeOffsets, record_of, HasOffsets, IsNarrow}
 
--- ---- the fields of each record in their order: how long, and whether hexadecimal and read as a number. Sizes and dimensions are kept as found.
-
-abbrev pub header_fields : List (ℕ × Bool)
-header_fields =
-    (32, false) ∷ (4, false) ∷ (28, false) ∷ (4, false) ∷ (28, false) ∷ (4, false) ∷ (1, false) ∷ (1, false) ∷ (4, false) ∷ (24, false)
-    ∷ (4, false) ∷ (12, true) ∷ (12, true) ∷ (12, true) ∷ (12, false) ∷ (4, false) ∷ []
-
-abbrev pub free_table_fields : List (ℕ × Bool)
-free_table_fields = (4, false) ∷ (12, true) ∷ (12, true) ∷ (12, true) ∷ (12, true) ∷ (12, true) ∷ (12, true) ∷ (4, false) ∷ []
-
-abbrev pub node_fields : Bool → List (ℕ × Bool)
-node_fields wide =
-    (4, false) ∷ (32, false) ∷ (32, false) ∷ (8, true) ∷ (8, true) ∷ (12, true) ∷ (32, false) ∷ (2, true)
-    ∷ replicate 12 (dimension_digits wide, false) ++ (4, true) ∷ (12, true) ∷ (4, false) ∷ []
-
 -- ---- what the types keep: the lengths of arrays, numbers that fit, pointers with an offset in their block
 
 pub record FitsHeader (h : FileHeader) : Type 0 where
-  pub what : length h.what ≡ 32
-  pub created : length h.created ≡ 28
-  pub modified : length h.modified ≡ 28
-  pub sizes : length h.sizes ≡ 24
+  pub what : length h.what ≡ HEADER_WHAT.length
+  pub created : length h.created ≡ HEADER_CREATED.length
+  pub modified : length h.modified ≡ HEADER_MODIFIED.length
+  pub sizes : length h.sizes ≡ HEADER_SIZES.length
   pub root : IsWritable h.root
   pub end : IsWritable h.end
   pub free_table : IsWritable h.free_table
-  pub extra : length h.extra ≡ 12
+  pub extra : length h.extra ≡ HEADER_EXTRA.length
 
 pub record FitsFree (t : FreeTable) : Type 0 where
   pub small_first : IsWritable t.small_first
@@ -49,8 +35,8 @@ pub record FitsFree (t : FreeTable) : Type 0 where
   pub large_last : IsWritable t.large_last
 
 pub record FitsNode (n : NodeHeader) : Type 0 where
-  pub name : length n.name ≡ 32
-  pub label : length n.label ≡ 32
+  pub name : length n.name ≡ NODE_NAME.length
+  pub label : length n.label ≡ NODE_LABEL.length
   pub children : n.children < 2 ^ 32
   pub entries : n.entries < 2 ^ 32
   pub table : IsWritable n.table
@@ -81,14 +67,14 @@ NodeIsReadAgain = (n : NodeHeader) (answer : Result NodeHeader BadField) → Fit
 -- ---- what is written of a record that was read are its bytes, with the letters of its numbers and pointers in upper case
 
 abbrev pub HeaderIsWrittenAgain : Type 0
-HeaderIsWrittenAgain = (bytes : List ℕ) → length bytes ≡ 186 → first_broken (header_rows bytes) ≡ None → header_text (header_record bytes) ≡ in_upper_case header_fields bytes
+HeaderIsWrittenAgain = (bytes : List ℕ) → length bytes ≡ HEADER_LENGTH → first_broken (header_rows bytes) ≡ None → header_text (header_record bytes) ≡ in_upper_case (letters_in header_fields) bytes
 
 abbrev pub FreeIsWrittenAgain : Type 0
-FreeIsWrittenAgain = (bytes : List ℕ) → length bytes ≡ 80 → first_broken (free_table_rows 0 bytes) ≡ None → free_table_text (free_table_record bytes) ≡ in_upper_case free_table_fields bytes
+FreeIsWrittenAgain = (bytes : List ℕ) → length bytes ≡ FREE_TABLE_LENGTH → first_broken (free_table_rows 0 bytes) ≡ None → free_table_text (free_table_record bytes) ≡ in_upper_case (letters_in free_table_fields) bytes
 
 abbrev pub NodeIsWrittenAgain : Type 0
 NodeIsWrittenAgain = (wide named : Bool) (bytes : List ℕ) → length bytes ≡ node_length wide → first_broken (node_rows wide 0 named bytes) ≡ None
-    → node_text (node_record wide bytes) ≡ in_upper_case (node_fields wide) bytes
+    → node_text (node_record wide bytes) ≡ in_upper_case (letters_in (node_fields wide)) bytes
 
 -- ---- a record at a place breaks the rules that its bytes break, at that place and the offset
 

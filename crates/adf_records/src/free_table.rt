@@ -6,23 +6,13 @@ ghost use Rattle.adf_format.specs.FirstFault.{free_table_rows};
 ghost use Rattle.adf_format.specs.Records.{free_table_record, free_table_text};
 ghost use Rattle.adf_records.specs.View.{fault, pointers_of, HasFreeOffsets};
 
-use crate::fields::{bad, holds, is_blank, pointer_at, pointer_in, put, put_pointer};
+use crate::faults::bad;
 use crate::{BadField, FreeTable};
-
-// Where the fields stand.
-const SMALL_FIRST: usize = 4;
-
-const SMALL_LAST: usize = 16;
-
-const MEDIUM_FIRST: usize = 28;
-
-const MEDIUM_LAST: usize = 40;
-
-const LARGE_FIRST: usize = 52;
-
-const LARGE_LAST: usize = 64;
-
-const END_TAG: usize = 76;
+use adf_format::fields::{
+    FREE_END_TAG, FREE_TAG, LARGE_FIRST, LARGE_LAST, MEDIUM_FIRST, MEDIUM_LAST, SMALL_FIRST,
+    SMALL_LAST,
+};
+use disk_ptr::fields::{holds_tag, is_blank, pointer_at, pointer_or_blank, put_pointer, put_tag};
 
 /// The first rule that a free table breaks.
 #[tactic(auto, unfolding(adf_format::specs::FirstFault::free_table_rows))]
@@ -30,11 +20,11 @@ pub fn first_fault(bytes: &[u8]) -> Option<BadField>
     requires { length bytes.now ≡ 80 }
     ensures { option_map fault result ≡ first_broken (free_table_rows 0 bytes.now) }
 {
-    if !holds(bytes, 0, b"fCbt") {
-        return bad(9, 0);
+    if !holds_tag(bytes, FREE_TAG) {
+        return bad(9, FREE_TAG);
     }
-    if !holds(bytes, END_TAG, b"Fcte") {
-        return bad(9, END_TAG);
+    if !holds_tag(bytes, FREE_END_TAG) {
+        return bad(9, FREE_END_TAG);
     }
     if pointer_at(bytes, SMALL_FIRST).is_none() {
         return bad(10, SMALL_FIRST);
@@ -74,12 +64,12 @@ pub fn read(bytes: &[u8]) -> FreeTable
     ensures offsets { HasFreeOffsets result }
 {
     FreeTable {
-        small_first: pointer_in(bytes, SMALL_FIRST),
-        small_last: pointer_in(bytes, SMALL_LAST),
-        medium_first: pointer_in(bytes, MEDIUM_FIRST),
-        medium_last: pointer_in(bytes, MEDIUM_LAST),
-        large_first: pointer_in(bytes, LARGE_FIRST),
-        large_last: pointer_in(bytes, LARGE_LAST),
+        small_first: pointer_or_blank(bytes, SMALL_FIRST),
+        small_last: pointer_or_blank(bytes, SMALL_LAST),
+        medium_first: pointer_or_blank(bytes, MEDIUM_FIRST),
+        medium_last: pointer_or_blank(bytes, MEDIUM_LAST),
+        large_first: pointer_or_blank(bytes, LARGE_FIRST),
+        large_last: pointer_or_blank(bytes, LARGE_LAST),
     }
 }
 
@@ -89,12 +79,12 @@ pub fn write(table: &FreeTable, into: &mut [u8; 80])
     requires { HasFreeOffsets table.now }
     ensures { into.new ≡ free_table_text (pointers_of table.now) }
 {
-    let at = put(into, 0, b"fCbt");
+    let at = put_tag(into, 0, FREE_TAG);
     let at = put_pointer(into, at, table.small_first);
     let at = put_pointer(into, at, table.small_last);
     let at = put_pointer(into, at, table.medium_first);
     let at = put_pointer(into, at, table.medium_last);
     let at = put_pointer(into, at, table.large_first);
     let at = put_pointer(into, at, table.large_last);
-    put(into, at, b"Fcte");
+    put_tag(into, at, FREE_END_TAG);
 }

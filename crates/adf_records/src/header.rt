@@ -1,67 +1,56 @@
 //! The file header, 186 bytes.
 
-ghost use Rattle.std.specs.Prelude.{◌≡◌, ◌+◌, ◌<◌, ◌&&◌, ◌||◌, [], ◌∷◌, length, map, codes, option_map};
+ghost use Rattle.std.specs.Prelude.{◌≡◌, ◌<◌, ◌&&◌, ◌||◌, true, false, [], ◌∷◌, length, map, option_map};
 ghost use Rattle.adf_format.specs.Fields.{holds};
 ghost use Rattle.adf_format.specs.Checks.{first_broken};
 ghost use Rattle.adf_format.specs.FirstFault.{header_rows, count_up};
-ghost use Rattle.adf_format.specs.Parts.{format_letter};
+ghost use Rattle.adf_format.specs.Parts.{version_letter, format_letter};
 ghost use Rattle.adf_format.specs.SoundPart.{format_in};
 ghost use Rattle.adf_format.specs.Records.{header_record, header_text};
 ghost use Rattle.adf_records.specs.Groups.{mark_rows, size_row, place_rows};
 ghost use Rattle.adf_records.specs.View.{fault, header_of, HasHeaderOffsets};
 
-use crate::fields::{
-    Span, bad, copied, holds, is_number, is_place, pointer_in, points_to, put, put_pointer,
-};
+use crate::faults::bad;
 use crate::{BadField, FileHeader};
 use adf_format::Format;
-
-// Where the fields stand.
-const WHAT: usize = 0;
-
-const CREATED: usize = 36;
-
-const MODIFIED: usize = 68;
-
-const FORMAT: usize = 100;
-
-const SIZE_LETTER: usize = 101;
-
-const SIZES: usize = 106;
-
-const ROOT: usize = 134;
-
-const END: usize = 146;
-
-const FREE_TABLE: usize = 158;
-
-const EXTRA: usize = 170;
+use adf_format::fields::{
+    CLOSING, FREE_TABLE_PLACE, Field, HEADER_CREATED, HEADER_END, HEADER_EXTRA, HEADER_FORMAT,
+    HEADER_FREE_TABLE, HEADER_MODIFIED, HEADER_ROOT, HEADER_SIZE, HEADER_SIZE_LETTER, HEADER_SIZES,
+    HEADER_TAG_0, HEADER_TAG_1, HEADER_TAG_2, HEADER_TAG_3, HEADER_TAG_4, HEADER_TAG_5,
+    HEADER_WHAT, PRODUCT, WHAT_CLOSING, WHAT_PRODUCT, WHAT_VERSION,
+};
+use disk_ptr::fields::{
+    copied, holds, holds_tag, is_number, is_place, pointer_or_blank, points_to, put, put_pointer,
+    put_tag,
+};
 
 // Whether the bytes say that this is such a file, in either version.
 fn is_what(bytes: &[u8]) -> bool
     requires { length bytes.now ≡ 186 }
-    ensures { result ≡ (holds bytes.now 0 (codes "@(#)ADF Database Version ") && (holds bytes.now 25 (codes "A") || holds bytes.now 25 (codes "W")) && holds bytes.now 31 (codes ">")) }
+    ensures { result ≡ (holds bytes.now WHAT_PRODUCT.offset PRODUCT
+        && (holds bytes.now WHAT_VERSION.offset (version_letter false) || holds bytes.now WHAT_VERSION.offset (version_letter true))
+        && holds bytes.now WHAT_CLOSING.offset CLOSING) }
 {
-    if !holds(bytes, WHAT, b"@(#)ADF Database Version ") {
+    if !holds(bytes, WHAT_PRODUCT.offset, &PRODUCT) {
         return false;
     }
-    if !holds(bytes, WHAT + 31, b">") {
+    if !holds(bytes, WHAT_CLOSING.offset, &CLOSING) {
         return false;
     }
-    if holds(bytes, WHAT + 25, b"A") {
+    if holds(bytes, WHAT_VERSION.offset, b"A") {
         return true;
     }
-    holds(bytes, WHAT + 25, b"W")
+    holds(bytes, WHAT_VERSION.offset, b"W")
 }
 
 fn is_format(bytes: &[u8]) -> bool
     requires { length bytes.now ≡ 186 }
-    ensures { result ≡ (holds bytes.now 100 (codes "L") || holds bytes.now 100 (codes "B")) }
+    ensures { result ≡ (holds bytes.now HEADER_FORMAT.offset (format_letter Format.Little) || holds bytes.now HEADER_FORMAT.offset (format_letter Format.Big)) }
 {
-    if holds(bytes, FORMAT, b"L") {
+    if holds(bytes, HEADER_FORMAT.offset, &format_letter(Format::Little)) {
         return true;
     }
-    holds(bytes, FORMAT, b"B")
+    holds(bytes, HEADER_FORMAT.offset, &format_letter(Format::Big))
 }
 
 #[tactic(auto, unfolding(crate::specs::Groups::mark_rows))]
@@ -70,28 +59,28 @@ fn mark_fault(bytes: &[u8]) -> Option<BadField>
     ensures { option_map fault result ≡ first_broken (mark_rows bytes.now) }
 {
     if !is_what(bytes) {
-        return bad(2, WHAT);
+        return bad(2, HEADER_WHAT);
     }
-    if !holds(bytes, 32, b"AdF0") {
-        return bad(3, 32);
+    if !holds_tag(bytes, HEADER_TAG_0) {
+        return bad(3, HEADER_TAG_0);
     }
-    if !holds(bytes, 64, b"AdF1") {
-        return bad(3, 64);
+    if !holds_tag(bytes, HEADER_TAG_1) {
+        return bad(3, HEADER_TAG_1);
     }
-    if !holds(bytes, 96, b"AdF2") {
-        return bad(3, 96);
+    if !holds_tag(bytes, HEADER_TAG_2) {
+        return bad(3, HEADER_TAG_2);
     }
-    if !holds(bytes, 102, b"AdF3") {
-        return bad(3, 102);
+    if !holds_tag(bytes, HEADER_TAG_3) {
+        return bad(3, HEADER_TAG_3);
     }
-    if !holds(bytes, 130, b"AdF4") {
-        return bad(3, 130);
+    if !holds_tag(bytes, HEADER_TAG_4) {
+        return bad(3, HEADER_TAG_4);
     }
-    if !holds(bytes, 182, b"AdF5") {
-        return bad(3, 182);
+    if !holds_tag(bytes, HEADER_TAG_5) {
+        return bad(3, HEADER_TAG_5);
     }
     if !is_format(bytes) {
-        return bad(4, FORMAT);
+        return bad(4, HEADER_FORMAT);
     }
     None
 }
@@ -102,12 +91,13 @@ fn one_size_fault(bytes: &[u8], i: usize) -> Option<BadField>
     requires within { i < 12 }
     ensures { option_map fault result ≡ first_broken (size_row bytes.now i ∷ []) }
 {
-    let size = Span {
-        offset: SIZES + 2 * i,
-        length: 2,
+    let size = Field {
+        offset: HEADER_SIZE.offset + HEADER_SIZE.length * i,
+        length: HEADER_SIZE.length,
+        kind: HEADER_SIZE.kind,
     };
     if !is_number(bytes, size) {
-        return bad(5, size.offset);
+        return bad(5, size);
     }
     None
 }
@@ -130,17 +120,17 @@ fn place_fault(bytes: &[u8]) -> Option<BadField>
     requires { length bytes.now ≡ 186 }
     ensures { option_map fault result ≡ first_broken (place_rows bytes.now) }
 {
-    if !is_place(bytes, ROOT) {
-        return bad(6, ROOT);
+    if !is_place(bytes, HEADER_ROOT) {
+        return bad(6, HEADER_ROOT);
     }
-    if !is_place(bytes, END) {
-        return bad(6, END);
+    if !is_place(bytes, HEADER_END) {
+        return bad(6, HEADER_END);
     }
-    if !is_place(bytes, FREE_TABLE) {
-        return bad(6, FREE_TABLE);
+    if !is_place(bytes, HEADER_FREE_TABLE) {
+        return bad(6, HEADER_FREE_TABLE);
     }
-    if !points_to(bytes, FREE_TABLE, 186) {
-        return bad(7, FREE_TABLE);
+    if !points_to(bytes, HEADER_FREE_TABLE, FREE_TABLE_PLACE as u64) {
+        return bad(7, HEADER_FREE_TABLE);
     }
     None
 }
@@ -164,7 +154,7 @@ fn format_in(bytes: &[u8]) -> Format
     requires { length bytes.now ≡ 186 }
     ensures { result ≡ format_in bytes.now }
 {
-    if holds(bytes, FORMAT, b"B") {
+    if holds(bytes, HEADER_FORMAT.offset, &format_letter(Format::Big)) {
         return Format::Big;
     }
     Format::Little
@@ -177,18 +167,18 @@ pub fn read(bytes: &[u8]) -> FileHeader
     ensures says { header_of result ≡ header_record bytes.now }
     ensures offsets { HasHeaderOffsets result }
 {
-    let [size_letter] = copied::<1>(bytes, SIZE_LETTER);
+    let [size_letter] = copied::<1>(bytes, HEADER_SIZE_LETTER);
     FileHeader {
-        what: copied(bytes, WHAT),
-        created: copied(bytes, CREATED),
-        modified: copied(bytes, MODIFIED),
+        what: copied(bytes, HEADER_WHAT),
+        created: copied(bytes, HEADER_CREATED),
+        modified: copied(bytes, HEADER_MODIFIED),
         format: format_in(bytes),
         size_letter,
-        sizes: copied(bytes, SIZES),
-        root: pointer_in(bytes, ROOT),
-        end: pointer_in(bytes, END),
-        free_table: pointer_in(bytes, FREE_TABLE),
-        extra: copied(bytes, EXTRA),
+        sizes: copied(bytes, HEADER_SIZES),
+        root: pointer_or_blank(bytes, HEADER_ROOT),
+        end: pointer_or_blank(bytes, HEADER_END),
+        free_table: pointer_or_blank(bytes, HEADER_FREE_TABLE),
+        extra: copied(bytes, HEADER_EXTRA),
     }
 }
 
@@ -208,19 +198,19 @@ pub fn write(header: &FileHeader, into: &mut [u8; 186])
     ensures { into.new ≡ header_text (header_of header.now) }
 {
     let at = put(into, 0, &header.what);
-    let at = put(into, at, b"AdF0");
+    let at = put_tag(into, at, HEADER_TAG_0);
     let at = put(into, at, &header.created);
-    let at = put(into, at, b"AdF1");
+    let at = put_tag(into, at, HEADER_TAG_1);
     let at = put(into, at, &header.modified);
-    let at = put(into, at, b"AdF2");
+    let at = put_tag(into, at, HEADER_TAG_2);
     let at = put(into, at, &format_letter(header.format));
     let at = put(into, at, &[header.size_letter]);
-    let at = put(into, at, b"AdF3");
+    let at = put_tag(into, at, HEADER_TAG_3);
     let at = put(into, at, &header.sizes);
-    let at = put(into, at, b"AdF4");
+    let at = put_tag(into, at, HEADER_TAG_4);
     let at = put_pointer(into, at, header.root);
     let at = put_pointer(into, at, header.end);
     let at = put_pointer(into, at, header.free_table);
     let at = put(into, at, &header.extra);
-    put(into, at, b"AdF5");
+    put_tag(into, at, HEADER_TAG_5);
 }

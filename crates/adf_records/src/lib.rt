@@ -7,10 +7,12 @@
 
 #![tactic(auto)]
 
-ghost use Rattle.std.specs.Prelude.{◌≡◌, ◌<◌, ◌≤◌, length, true, false, Some, None, IfOk, IfErr, OnOk, option_map};
+ghost use Rattle.std.specs.Prelude.{◌≡◌, ◌<◌, ◌≤◌, length, true, false, Some, None, IfOk, IfErr, OnOk, option_map, unwrap_or, map, take, slice_index_or, []};
 ghost use Rattle.adf_format.specs.Checks.{first_broken};
-ghost use Rattle.adf_format.specs.FirstFault.{header_rows, free_table_rows, node_rows};
+ghost use Rattle.adf_format.specs.FirstFault.{header_rows, free_table_rows, node_rows, is_name_field, count_up};
+ghost use Rattle.adf_format.specs.Hex.{hex_value};
 ghost use Rattle.adf_format.specs.Parts.{node_length};
+ghost use Rattle.adf_format.specs.RecordFields.{dimension_digits};
 ghost use Rattle.adf_format.specs.Records.{header_record, header_text, free_table_record, free_table_text, node_record, node_text};
 ghost use Rattle.adf_records.specs.View.{fault, header_of, HasHeaderOffsets, pointers_of, HasFreeOffsets, record_of, HasOffsets, IsNarrow};
 ghost use Rattle.adf_records.specs.Laws.{HeaderIsReadAgain, FreeIsReadAgain, NodeIsReadAgain, HeaderIsWrittenAgain, FreeIsWrittenAgain, NodeIsWrittenAgain, FreeFaultIsPlaced, NodeFaultIsPlaced};
@@ -18,7 +20,7 @@ ghost use Rattle.adf_records.specs.Laws.{HeaderIsReadAgain, FreeIsReadAgain, Nod
 use adf_format::{DataType, Format};
 use disk_ptr::DiskPtr;
 
-mod fields;
+mod faults;
 mod free_table;
 mod header;
 mod node;
@@ -196,6 +198,22 @@ pub fn encode_wide(header: &NodeHeader) -> [u8; 342]
     let mut text = [0u8; 342];
     node::write(header, &mut text);
     text
+}
+
+// ---- parts of a node header
+
+/// Whether a field of 32 bytes holds a name, with spaces behind it.
+pub fn is_name_field(field: &[u8; 32]) -> bool
+    ensures { result ≡ is_name_field field.now }
+{
+    texts::is_name(texts::trimmed(field))
+}
+
+/// The dimensions of a node as numbers: 0 where a dimension is not hexadecimal.
+pub fn dimensions_of(header: &NodeHeader) -> [u64; 12]
+    ensures { result ≡ map (λ i. unwrap_or (hex_value (take (dimension_digits header.now.wide) (slice_index_or header.now.dims i []))) 0) (count_up 12) }
+{
+    node::numbers(&header.dims, header.wide)
 }
 
 // ---- laws

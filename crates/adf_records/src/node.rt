@@ -1,86 +1,28 @@
 //! The header of a node: 246 bytes, and in its wide form 342.
 
-ghost use Rattle.std.specs.Prelude.{◌≡◌, ◌+◌, ◌*◌, ◌<◌, ◌≤◌, ◌&&◌, ◌++◌, [], ◌∷◌, nat_lt, length, map, take, option_map};
+ghost use Rattle.std.specs.Prelude.{◌≡◌, ◌+◌, ◌*◌, ◌<◌, ◌≤◌, ◌&&◌, ◌++◌, [], ◌∷◌, nat_lt, length, map, take, option_map, unwrap_or, slice_index_or};
 ghost use Rattle.std.specs.List.{AllByRecursion, flat_map};
-ghost use Rattle.adf_format.specs.Hex.{is_hex};
-ghost use Rattle.adf_format.specs.Fields.{field, number};
-ghost use Rattle.adf_format.specs.Parts.{node_length, chunk_count_at, dimension_digits};
+ghost use Rattle.adf_format.specs.Hex.{is_hex, hex_value};
+ghost use Rattle.adf_format.specs.Fields.{field};
+ghost use Rattle.adf_format.specs.RecordFields.{field_in, number_in, node_length, node_dimension, dimension_digits};
 ghost use Rattle.adf_format.specs.Checks.{first_broken};
 ghost use Rattle.adf_format.specs.FirstFault.{text_rows, number_rows, pointer_rows, shape_rows, node_rows, dimension_row, count_up, is_pointer_for};
 ghost use Rattle.adf_format.specs.Records.{node_record, node_text};
 ghost use Rattle.adf_records.specs.View.{fault, record_of, HasOffsets, IsNarrow, zeros_behind};
 
-use crate::fields::{
-    Span, bad, copied, field, holds, is_number, number, pointer_at, pointer_in, put, put_number,
-    put_pointer,
-};
+use crate::faults::bad;
 use crate::texts::{is_label, is_mt, is_name, padded, trimmed, type_of, type_or_mt, word_of};
 use crate::{BadField, NodeHeader};
-use disk_ptr::DiskPtr;
-
-// ---- where the fields stand
-
-const NAME: Span = Span {
-    offset: 4,
-    length: 32,
+use adf_format::fields::{
+    Field, NODE_CHILDREN, NODE_CHUNKS, NODE_END_TAG, NODE_ENTRIES, NODE_LABEL, NODE_NAME,
+    NODE_RANK, NODE_TABLE, NODE_TAG, NODE_TYPE, dimension_digits, node_chunk, node_chunks,
+    node_dimension, node_end_tag,
 };
-
-const LABEL: Span = Span {
-    offset: 36,
-    length: 32,
+use disk_ptr::fields::{
+    bytes_of, copied, holds_tag, is_number, number, pointer_at, pointer_or_blank, put, put_number,
+    put_pointer, put_tag,
 };
-
-const CHILDREN: Span = Span {
-    offset: 68,
-    length: 8,
-};
-
-const ENTRIES: Span = Span {
-    offset: 76,
-    length: 8,
-};
-
-const TABLE: usize = 84;
-
-const TYPE: Span = Span {
-    offset: 96,
-    length: 32,
-};
-
-const RANK: Span = Span {
-    offset: 128,
-    length: 2,
-};
-
-const DIMENSIONS: usize = 130;
-
-fn dimension_digits(wide: bool) -> usize
-    ensures { result ≡ dimension_digits wide }
-{
-    if wide { 16 } else { 8 }
-}
-
-// The i-th dimension.
-fn dimension_at(wide: bool, i: usize) -> Span
-    requires { i < 12 }
-    ensures { result ≡ record { offset = 130 + dimension_digits wide * i; length = dimension_digits wide } }
-{
-    let length = dimension_digits(wide);
-    Span {
-        offset: DIMENSIONS + length * i,
-        length,
-    }
-}
-
-// The chunk count, behind the dimensions.
-fn chunk_count(wide: bool) -> Span
-    ensures { result ≡ record { offset = chunk_count_at wide; length = 4 } }
-{
-    Span {
-        offset: if wide { 322 } else { 226 },
-        length: 4,
-    }
-}
+use disk_ptr::{DiskPtr, read_long_hex};
 
 // ---- the first broken rule, a group of rules at a time
 
@@ -89,21 +31,21 @@ fn text_fault(bytes: &[u8], wide: bool, named: bool) -> Option<BadField>
     requires { length bytes.now ≡ node_length wide }
     ensures { option_map fault result ≡ first_broken (text_rows wide 0 named bytes.now) }
 {
-    let end = chunk_count(wide).offset + 16;
-    if !holds(bytes, 0, b"NoDe") {
-        return bad(15, 0);
+    let end = node_end_tag(wide);
+    if !holds_tag(bytes, NODE_TAG) {
+        return bad(15, NODE_TAG);
     }
-    if !holds(bytes, end, b"TaiL") {
+    if !holds_tag(bytes, end) {
         return bad(15, end);
     }
-    if !is_name(trimmed(field(bytes, NAME))) {
-        return bad(16, NAME.offset);
+    if !is_name(trimmed(bytes_of(bytes, NODE_NAME))) {
+        return bad(16, NODE_NAME);
     }
     if !named {
-        return bad(16, NAME.offset);
+        return bad(16, NODE_NAME);
     }
-    if !is_label(trimmed(field(bytes, LABEL))) {
-        return bad(17, LABEL.offset);
+    if !is_label(trimmed(bytes_of(bytes, NODE_LABEL))) {
+        return bad(17, NODE_LABEL);
     }
     None
 }
@@ -113,28 +55,28 @@ fn number_fault(bytes: &[u8], wide: bool) -> Option<BadField>
     requires { length bytes.now ≡ node_length wide }
     ensures { option_map fault result ≡ first_broken (number_rows wide 0 bytes.now) }
 {
-    let chunks = chunk_count(wide);
-    if !is_number(bytes, CHILDREN) {
-        return bad(18, CHILDREN.offset);
+    let chunks = node_chunks(wide);
+    if !is_number(bytes, NODE_CHILDREN) {
+        return bad(18, NODE_CHILDREN);
     }
-    if !is_number(bytes, ENTRIES) {
-        return bad(18, ENTRIES.offset);
+    if !is_number(bytes, NODE_ENTRIES) {
+        return bad(18, NODE_ENTRIES);
     }
-    if !is_number(bytes, RANK) {
-        return bad(18, RANK.offset);
+    if !is_number(bytes, NODE_RANK) {
+        return bad(18, NODE_RANK);
     }
     if !is_number(bytes, chunks) {
-        return bad(18, chunks.offset);
+        return bad(18, chunks);
     }
     None
 }
 
-// Whether a pointer stands at an offset that is blank exactly if the number is 0.
-fn is_pointer_for(n: u64, bytes: &[u8], offset: usize) -> bool
-    requires { offset + 12 ≤ length bytes.now }
-    ensures { result ≡ is_pointer_for n (field bytes.now offset 12) }
+// Whether a field is a pointer that is blank exactly if the number is 0.
+fn is_pointer_for(n: u64, bytes: &[u8], at: Field) -> bool
+    requires { at.offset + 12 ≤ length bytes.now }
+    ensures { result ≡ is_pointer_for n (field bytes.now at.offset 12) }
 {
-    match pointer_at(bytes, offset) {
+    match pointer_at(bytes, at) {
         None => false,
         Some(DiskPtr::Blank) => n == 0,
         Some(DiskPtr::At { .. }) => n != 0,
@@ -146,10 +88,10 @@ fn pointer_fault(bytes: &[u8], wide: bool) -> Option<BadField>
     requires { length bytes.now ≡ node_length wide }
     ensures { option_map fault result ≡ first_broken (pointer_rows wide 0 bytes.now) }
 {
-    let chunks = chunk_count(wide);
-    let chunk = chunks.offset + 4;
-    if !is_pointer_for(number(bytes, ENTRIES), bytes, TABLE) {
-        return bad(19, TABLE);
+    let chunks = node_chunks(wide);
+    let chunk = node_chunk(wide);
+    if !is_pointer_for(number(bytes, NODE_ENTRIES), bytes, NODE_TABLE) {
+        return bad(19, NODE_TABLE);
     }
     if !is_pointer_for(number(bytes, chunks), bytes, chunk) {
         return bad(19, chunk);
@@ -157,11 +99,11 @@ fn pointer_fault(bytes: &[u8], wide: bool) -> Option<BadField>
     None
 }
 
-fn is_dimension(bytes: &[u8], at: Span) -> bool
+fn is_dimension(bytes: &[u8], at: Field) -> bool
     requires some { 1 ≤ at.length }
     requires few { at.length ≤ 16 }
     requires within { at.offset + at.length ≤ length bytes.now }
-    ensures { result ≡ (is_hex (field bytes.now at.offset at.length) && nat_lt 0 (number bytes.now at.offset at.length)) }
+    ensures { result ≡ (is_hex (field_in bytes.now at) && nat_lt 0 (number_in bytes.now at)) }
 {
     if !is_number(bytes, at) {
         return false;
@@ -175,9 +117,9 @@ fn one_dimension_fault(bytes: &[u8], wide: bool, i: usize) -> Option<BadField>
     requires within { i < 12 }
     ensures { option_map fault result ≡ first_broken (dimension_row wide 0 bytes.now i ∷ []) }
 {
-    let dimension = dimension_at(wide, i);
+    let dimension = node_dimension(wide, i);
     if !is_dimension(bytes, dimension) {
-        return bad(21, dimension.offset);
+        return bad(21, dimension);
     }
     None
 }
@@ -201,16 +143,16 @@ fn shape_fault(bytes: &[u8], wide: bool) -> Option<BadField>
     requires { length bytes.now ≡ node_length wide }
     ensures { option_map fault result ≡ first_broken (shape_rows wide 0 bytes.now) }
 {
-    let rank = number(bytes, RANK) as usize;
-    let word = field(bytes, TYPE);
+    let rank = number(bytes, NODE_RANK) as usize;
+    let word = bytes_of(bytes, NODE_TYPE);
     if type_of(word).is_none() {
-        return bad(20, TYPE.offset);
+        return bad(20, NODE_TYPE);
     }
     if rank > 12 {
-        return bad(21, RANK.offset);
+        return bad(21, NODE_RANK);
     }
     if (rank == 0) != is_mt(type_or_mt(word)) {
-        return bad(21, RANK.offset);
+        return bad(21, NODE_RANK);
     }
     dimension_fault(bytes, wide, rank)
 }
@@ -238,18 +180,18 @@ pub fn first_fault(bytes: &[u8], wide: bool, named: bool) -> Option<BadField>
 fn dimension(bytes: &[u8], wide: bool, i: usize) -> [u8; 16]
     requires long { length bytes.now ≡ node_length wide }
     requires within { i < 12 }
-    ensures digits { take (dimension_digits wide) result ≡ field bytes.now (130 + dimension_digits wide * i) (dimension_digits wide) }
+    ensures digits { take (dimension_digits wide) result ≡ field_in bytes.now (node_dimension wide 0 i) }
     ensures narrow { zeros_behind wide result }
 {
-    let at = dimension_at(wide, i);
+    let at = node_dimension(wide, i);
     let mut dimension = [0u8; 16];
-    dimension[..at.length].copy_from_slice(field(bytes, at));
+    dimension[..at.length].copy_from_slice(bytes_of(bytes, at));
     dimension
 }
 
 fn dimensions(bytes: &[u8], wide: bool) -> [[u8; 16]; 12]
     requires { length bytes.now ≡ node_length wide }
-    ensures digits { map (take (dimension_digits wide)) result ≡ map (λ i. field bytes.now (130 + dimension_digits wide * i) (dimension_digits wide)) (count_up 12) }
+    ensures digits { map (take (dimension_digits wide)) result ≡ map (λ i. field_in bytes.now (node_dimension wide 0 i)) (count_up 12) }
     ensures narrow { AllByRecursion (zeros_behind wide) result }
 {
     [
@@ -277,20 +219,50 @@ pub fn read(bytes: &[u8], wide: bool) -> NodeHeader
     ensures narrow { IsNarrow result }
     ensures wide { result.wide ≡ wide }
 {
-    let chunks = chunk_count(wide);
+    let chunks = node_chunks(wide);
     NodeHeader {
         wide,
-        name: copied(bytes, NAME.offset),
-        label: copied(bytes, LABEL.offset),
-        children: number(bytes, CHILDREN) as u32,
-        entries: number(bytes, ENTRIES) as u32,
-        table: pointer_in(bytes, TABLE),
-        kind: type_or_mt(field(bytes, TYPE)),
-        rank: number(bytes, RANK) as u8,
+        name: copied(bytes, NODE_NAME),
+        label: copied(bytes, NODE_LABEL),
+        children: number(bytes, NODE_CHILDREN) as u32,
+        entries: number(bytes, NODE_ENTRIES) as u32,
+        table: pointer_or_blank(bytes, NODE_TABLE),
+        kind: type_or_mt(bytes_of(bytes, NODE_TYPE)),
+        rank: number(bytes, NODE_RANK) as u8,
         dims: dimensions(bytes, wide),
         chunks: number(bytes, chunks) as u16,
-        chunk: pointer_in(bytes, chunks.offset + 4),
+        chunk: pointer_or_blank(bytes, node_chunk(wide)),
     }
+}
+
+// The number of a dimension, or 0.
+fn number_of(dimension: &[u8; 16], wide: bool) -> u64
+    ensures { result ≡ unwrap_or (hex_value (take (dimension_digits wide) dimension.now)) 0 }
+{
+    match read_long_hex(&dimension[..dimension_digits(wide)]) {
+        Some(value) => value,
+        None => 0,
+    }
+}
+
+/// The dimensions as numbers.
+pub fn numbers(dims: &[[u8; 16]; 12], wide: bool) -> [u64; 12]
+    ensures { result ≡ map (λ i. unwrap_or (hex_value (take (dimension_digits wide) (slice_index_or dims.now i []))) 0) (count_up 12) }
+{
+    [
+        number_of(&dims[0], wide),
+        number_of(&dims[1], wide),
+        number_of(&dims[2], wide),
+        number_of(&dims[3], wide),
+        number_of(&dims[4], wide),
+        number_of(&dims[5], wide),
+        number_of(&dims[6], wide),
+        number_of(&dims[7], wide),
+        number_of(&dims[8], wide),
+        number_of(&dims[9], wide),
+        number_of(&dims[10], wide),
+        number_of(&dims[11], wide),
+    ]
 }
 
 // ---- writing
@@ -317,16 +289,16 @@ pub fn write(header: &NodeHeader, into: &mut [u8])
     ensures { into.new ≡ node_text (record_of header.now) }
 {
     let digits = dimension_digits(header.wide);
-    let at = put(into, 0, b"NoDe");
+    let at = put_tag(into, 0, NODE_TAG);
     let at = put(into, at, &header.name);
     let at = put(into, at, &header.label);
-    let at = put_number(into, at, u64::from(header.children), CHILDREN.length);
-    let at = put_number(into, at, u64::from(header.entries), ENTRIES.length);
+    let at = put_number(into, at, u64::from(header.children), NODE_CHILDREN.length);
+    let at = put_number(into, at, u64::from(header.entries), NODE_ENTRIES.length);
     let at = put_pointer(into, at, header.table);
     let at = put(into, at, &padded(word_of(header.kind)));
-    let at = put_number(into, at, u64::from(header.rank), RANK.length);
+    let at = put_number(into, at, u64::from(header.rank), NODE_RANK.length);
     let at = put_dimensions(into, at, &header.dims, digits);
-    let at = put_number(into, at, u64::from(header.chunks), 4);
+    let at = put_number(into, at, u64::from(header.chunks), NODE_CHUNKS.length);
     let at = put_pointer(into, at, header.chunk);
-    put(into, at, b"TaiL");
+    put_tag(into, at, NODE_END_TAG);
 }

@@ -19,6 +19,9 @@ const FULL: &[u8; 246] =
 const WIDE: &[u8; 342] =
     b"NoDeZone 1                          Zone_t                          0000000000000000000000001000I4                              0C0000000000000001000000000000000100000000000000010000000000000001000000000000000100000000000000010000000000000001000000000000000100000000000000010000000000000001000000000000000100000000000000010000000000001000TaiL";
 
+const WIDE_ROOT: &[u8; 342] =
+    b"NoDeADF MotherNode                  Root Node of ADF File           0000000000000000000000001000MT                              000000000000000000000000000000000000000000000000000000000000000000000000000000000000000000000000000000000000000000000000000000000000000000000000000000000000000000000000000000000000000000000000000000000000001000TaiL";
+
 const FRESH_HEADER: FileHeader = FileHeader {
     what: *b"@(#)ADF Database Version A02007>",
     created: [b' '; 28],
@@ -90,8 +93,36 @@ fn a_fresh_file_is_read_and_written(rt: HostRuntime) {
 }
 
 #[test]
+fn a_fresh_wide_file_is_read_and_written(rt: HostRuntime) {
+    let bytes = with(&rt, HEADER, 25, b"W");
+    let bytes = with(&rt, &bytes, 146, b"00000000025F");
+    let header = FileHeader {
+        what: *b"@(#)ADF Database Version W02007>",
+        end: near(607),
+        ..FRESH_HEADER
+    };
+    assert_eq!(rt; decode_header(&bytes), Ok(header));
+    assert_eq!(rt; encode_header(&header), bytes);
+    let root = NodeHeader {
+        wide: true,
+        name: *b"ADF MotherNode                  ",
+        label: *b"Root Node of ADF File           ",
+        children: 0,
+        entries: 0,
+        table: DiskPtr::Blank,
+        kind: DataType::Mt,
+        rank: 0,
+        dims: [*b"0000000000000000"; 12],
+        chunks: 0,
+        chunk: DiskPtr::Blank,
+    };
+    assert_eq!(rt; decode_wide(WIDE_ROOT), Ok(root));
+    assert_eq!(rt; encode_wide(&root), *WIDE_ROOT);
+}
+
+#[test]
 fn a_header_is_refused_at_its_first_broken_rule(rt: HostRuntime) {
-    let rows: [(usize, &[u8], u8, u16); 26] = [
+    let rows: [(usize, &[u8], u8, u16); 32] = [
         (0, b"#", 2, 0),
         (24, b"_", 2, 0),
         (25, b"B", 2, 0),
@@ -111,11 +142,17 @@ fn a_header_is_refused_at_its_first_broken_rule(rt: HostRuntime) {
         (134, b"000000001000", 6, 134),
         (134, b"000000001001", 6, 134),
         (134, b"000000011000", 6, 134),
+        (145, b"g", 6, 134),
         (146, b"0000000g01FF", 6, 146),
         (146, b"000000001000", 6, 146),
+        (146, b"000000001001", 6, 146),
+        (157, b" ", 6, 146),
         (158, b"000000001000", 6, 158),
+        (158, b"000000001001", 6, 158),
+        (169, b"G", 6, 158),
         (158, b"000000000 BA", 6, 158),
         (158, b"0000000000BB", 7, 158),
+        (158, b"0000000100BA", 7, 158),
         // An earlier rule comes first, wherever it stands.
         (181, b"0adF5", 3, 182),
         (100, b"lLaDF3", 3, 102),
@@ -163,7 +200,7 @@ fn a_header_takes_either_case_and_any_free_byte(rt: HostRuntime) {
 
 #[test]
 fn a_free_table_is_refused_at_its_first_broken_rule(rt: HostRuntime) {
-    let rows: [(usize, &[u8], u8, u16); 13] = [
+    let rows: [(usize, &[u8], u8, u16); 18] = [
         (0, b"F", 9, 0),
         (3, b"T", 9, 0),
         (76, b"f", 9, 76),
@@ -171,10 +208,15 @@ fn a_free_table_is_refused_at_its_first_broken_rule(rt: HostRuntime) {
         (4, b"000000001001", 10, 4),
         (16, b"x", 10, 16),
         (28, b"x", 10, 28),
+        (40, b"x", 10, 40),
+        (52, b"x", 10, 52),
         (64, b"000000011000", 10, 64),
+        (75, b"G", 10, 64),
         (4, b"000000000FFF", 11, 4),
         (16, b"000000000fff", 11, 4),
+        (28, b"000000000FFF", 11, 28),
         (40, b"000000000FFF", 11, 28),
+        (52, b"000000000FFF", 11, 52),
         (64, b"000000000FFF", 11, 52),
         (4, b"000000000FFF000000001000x", 10, 28),
     ];
@@ -203,8 +245,48 @@ fn a_free_table_is_refused_at_its_first_broken_rule(rt: HostRuntime) {
 }
 
 #[test]
+fn a_free_table_has_two_pointers_for_each_list(rt: HostRuntime) {
+    let table = FreeTable {
+        small_first: DiskPtr::At {
+            block: 0,
+            offset: 0x10A,
+        },
+        small_last: DiskPtr::At {
+            block: 0,
+            offset: 4095,
+        },
+        medium_first: DiskPtr::At {
+            block: 1,
+            offset: 0,
+        },
+        medium_last: DiskPtr::At {
+            block: 0xA,
+            offset: 0xABC,
+        },
+        large_first: DiskPtr::At {
+            block: 0xF,
+            offset: 0x200,
+        },
+        large_last: DiskPtr::At {
+            block: 0xABCDEF01,
+            offset: 4095,
+        },
+    };
+    assert_eq!(rt;
+        decode_free(
+            b"fCbt00000000010A000000000FFF0000000100000000000a0abC0000000F0200ABCDEF010FFFFcte"
+        ),
+        Ok(table)
+    );
+    assert_eq!(rt;
+        encode_free(&table),
+        *b"fCbt00000000010A000000000FFF0000000100000000000A0ABC0000000F0200ABCDEF010FFFFcte"
+    );
+}
+
+#[test]
 fn a_node_is_refused_at_its_first_broken_rule(rt: HostRuntime) {
-    let rows: [(usize, &[u8], u8, u16); 37] = [
+    let rows: [(usize, &[u8], u8, u16); 43] = [
         (0, b"n", 15, 0),
         (3, b"E", 15, 0),
         (242, b"t", 15, 242),
@@ -218,6 +300,8 @@ fn a_node_is_refused_at_its_first_broken_rule(rt: HostRuntime) {
         (36, b" ", 17, 36),
         (67, b"\x1F", 17, 36),
         (68, b"g", 18, 68),
+        (75, b"g", 18, 68),
+        (76, b"G", 18, 76),
         (83, b" ", 18, 76),
         (128, b"g", 18, 128),
         (129, b"x", 18, 128),
@@ -226,13 +310,17 @@ fn a_node_is_refused_at_its_first_broken_rule(rt: HostRuntime) {
         (84, b"000000001001", 19, 84),
         (84, b"000000000200", 19, 84),
         (76, b"00000001", 19, 84),
+        (95, b"g", 19, 84),
         (226, b"0001", 19, 230),
         (230, b"000000000200", 19, 230),
         (230, b"000000011000", 19, 230),
+        (230, b"000000001001", 19, 230),
+        (241, b"g", 19, 230),
         (96, b"mt", 20, 96),
         (98, b"4", 20, 96),
         (127, b"x", 20, 96),
         (128, b"0D", 21, 128),
+        (128, b"0d", 21, 128),
         (128, b"fF", 21, 128),
         (128, b"00", 21, 128),
         (96, b"MT", 21, 128),
@@ -268,13 +356,21 @@ fn a_node_is_refused_at_its_first_broken_rule(rt: HostRuntime) {
 
 #[test]
 fn a_wide_node_is_refused_at_its_own_offsets(rt: HostRuntime) {
-    let rows: [(usize, &[u8], u8, u16); 9] = [
+    let rows: [(usize, &[u8], u8, u16); 17] = [
         (0, b"n", 15, 0),
+        (338, b"t", 15, 338),
         (341, b"l", 15, 338),
         (4, b"/", 16, 4),
+        (67, b"\x7F", 17, 36),
+        (68, b"g", 18, 68),
         (322, b"g", 18, 322),
         (325, b" ", 18, 322),
+        (84, b"000000000200", 19, 84),
         (326, b"000000000200", 19, 326),
+        (337, b"G", 19, 326),
+        (96, b"i4", 20, 96),
+        (127, b"4", 20, 96),
+        (128, b"0D", 21, 128),
         (130, b"0000000000000000", 21, 130),
         (321, b"0", 21, 306),
         (306, b"g", 21, 306),
@@ -385,4 +481,34 @@ fn a_node_takes_either_case_and_is_written_in_upper_case(rt: HostRuntime) {
         encode_wide(&wide),
         *b"NoDeZone 1                          Zone_t                          0000ABCD0010ABCDABCDEF010FFFR8                              0C000000000000000a00abcdef0123457101579bde02468ad8020369cd0369d03f02af37bc048d15a6035b05ab05b05b0d0406d39a06d3a07404b2a18907f6e5db055e6f78091a2b42060a3d670a3d70a906b60b560b60b6100761d9450c83fb7700FE0000000A046ATaiL"
     );
+}
+
+#[test]
+fn dimensions_are_numbers_of_eight_or_sixteen_digits(rt: HostRuntime) {
+    let mut header = NodeHeader {
+        wide: false,
+        name: [b' '; 32],
+        label: [b' '; 32],
+        children: 0,
+        entries: 0,
+        table: DiskPtr::Blank,
+        kind: DataType::C1,
+        rank: 2,
+        dims: [*b"0000001fGGGGGGGG"; 12],
+        chunks: 0,
+        chunk: DiskPtr::Blank,
+    };
+    assert_eq!(rt; dimensions_of(&header), [31; 12]);
+    header.wide = true;
+    assert_eq!(rt; dimensions_of(&header), [0; 12]);
+    header.dims = [*b"0000000100000002"; 12];
+    assert_eq!(rt; dimensions_of(&header), [4_294_967_298; 12]);
+}
+
+#[test]
+fn a_name_field_has_spaces_behind_the_name(rt: HostRuntime) {
+    assert!(rt; is_name_field(b"Base                            "));
+    assert!(rt; !is_name_field(b" Base                           "));
+    assert!(rt; !is_name_field(b"                                "));
+    assert!(rt; !is_name_field(b"a/b                             "));
 }

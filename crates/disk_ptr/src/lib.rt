@@ -12,6 +12,8 @@ ghost use Rattle.adf_format.specs.Pointer.{pointer, pointer_text, pointer_of_par
 ghost use Rattle.disk_ptr.specs.View.{view, place_of, HasOffset, IsWritable};
 ghost use Rattle.disk_ptr.specs.declared.DiskPtr.{DiskPtr};
 
+pub mod fields;
+
 /// A pointer as a file holds it.
 #[derive(Clone, Copy, Debug, PartialEq, Eq)]
 pub enum DiskPtr {

@@ -1,8 +1,137 @@
 //! Pointers and numbers against spellings written by hand.
 
+use crate::fields::{
+    bytes_of, copied, holds, holds_tag, is_blank, is_number, is_place, number, pointer_at,
+    pointer_or_blank, points_to, put, put_number, put_pointer, put_tag,
+};
 use crate::{
     DiskPtr, decode, encode, from_place, place, read_hex, read_long_hex, write_hex, write_long_hex,
 };
+use adf_format::fields::{Field, FieldKind};
+
+// A record of a tag, a name, two numbers and three pointers.
+const RECORD: &[u8; 52] = b"TagSname00fFxyz1000000001000000000000fFf000000001001";
+
+const TAG: Field = Field {
+    offset: 0,
+    length: 4,
+    kind: FieldKind::Tag(*b"TagS"),
+};
+
+const FIRST_BYTE_WRONG: Field = Field {
+    offset: 0,
+    length: 4,
+    kind: FieldKind::Tag(*b"tagS"),
+};
+
+const LAST_BYTE_WRONG: Field = Field {
+    offset: 0,
+    length: 4,
+    kind: FieldKind::Tag(*b"Tags"),
+};
+
+const TAG_ELSEWHERE: Field = Field {
+    offset: 1,
+    length: 4,
+    kind: FieldKind::Tag(*b"TagS"),
+};
+
+const NAME: Field = Field {
+    offset: 4,
+    length: 4,
+    kind: FieldKind::Text,
+};
+
+const SIZE: Field = Field {
+    offset: 8,
+    length: 4,
+    kind: FieldKind::Number,
+};
+
+const WORD: Field = Field {
+    offset: 12,
+    length: 4,
+    kind: FieldKind::Number,
+};
+
+const BLANK: Field = Field {
+    offset: 16,
+    length: 12,
+    kind: FieldKind::Pointer,
+};
+
+const PLACE: Field = Field {
+    offset: 28,
+    length: 12,
+    kind: FieldKind::Pointer,
+};
+
+const NONE: Field = Field {
+    offset: 40,
+    length: 12,
+    kind: FieldKind::Pointer,
+};
+
+#[test]
+fn fields_are_read_where_they_stand(rt: HostRuntime) {
+    assert!(rt; holds_tag(RECORD, TAG));
+    assert!(rt; !holds_tag(RECORD, FIRST_BYTE_WRONG));
+    assert!(rt; !holds_tag(RECORD, LAST_BYTE_WRONG));
+    assert!(rt; !holds_tag(RECORD, TAG_ELSEWHERE));
+    assert!(rt; holds(RECORD, 4, b"name"));
+    assert!(rt; !holds(RECORD, 4, b"names"));
+    assert_eq!(rt; bytes_of(RECORD, NAME), b"name".as_slice());
+    assert_eq!(rt; copied::<4>(RECORD, NAME), *b"name");
+    assert!(rt; is_number(RECORD, SIZE));
+    assert_eq!(rt; number(RECORD, SIZE), 255);
+    assert!(rt; !is_number(RECORD, WORD));
+    assert_eq!(rt; number(RECORD, WORD), 0);
+}
+
+#[test]
+fn a_pointer_field_is_blank_a_place_or_none(rt: HostRuntime) {
+    let place = DiskPtr::At {
+        block: 0,
+        offset: 4095,
+    };
+    assert_eq!(rt; pointer_at(RECORD, BLANK), Some(DiskPtr::Blank));
+    assert_eq!(rt; pointer_or_blank(RECORD, BLANK), DiskPtr::Blank);
+    assert!(rt; is_blank(RECORD, BLANK));
+    assert!(rt; !is_place(RECORD, BLANK));
+    assert!(rt; !points_to(RECORD, BLANK, 4096));
+    assert_eq!(rt; pointer_at(RECORD, PLACE), Some(place));
+    assert_eq!(rt; pointer_or_blank(RECORD, PLACE), place);
+    assert!(rt; !is_blank(RECORD, PLACE));
+    assert!(rt; is_place(RECORD, PLACE));
+    assert!(rt; points_to(RECORD, PLACE, 4095));
+    assert!(rt; !points_to(RECORD, PLACE, 4094));
+    assert_eq!(rt; pointer_at(RECORD, NONE), None);
+    assert_eq!(rt; pointer_or_blank(RECORD, NONE), DiskPtr::Blank);
+    assert!(rt; !is_blank(RECORD, NONE));
+    assert!(rt; !is_place(RECORD, NONE));
+    assert!(rt; !points_to(RECORD, NONE, 4097));
+}
+
+#[test]
+fn fields_are_written_one_behind_the_other(rt: HostRuntime) {
+    let mut text = [b'.'; 26];
+    let end = put_tag(&mut text, 0, TAG);
+    assert_eq!(rt; end, 4);
+    let end = put(&mut text, end, b"name");
+    let end = put_number(&mut text, end, 0xABC, 4);
+    let end = put_pointer(
+        &mut text,
+        end,
+        DiskPtr::At {
+            block: 0xFE,
+            offset: 0xA0,
+        },
+    );
+    assert_eq!(rt; end, 24);
+    assert_eq!(rt; text, *b"TagSname0ABC000000FE00A0..");
+    assert_eq!(rt; put_tag(&mut text, 24, NAME), 24);
+    assert_eq!(rt; text, *b"TagSname0ABC000000FE00A0..");
+}
 
 #[test]
 fn a_pointer_is_a_block_and_an_offset_of_at_most_4095(rt: HostRuntime) {

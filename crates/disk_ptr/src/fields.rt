@@ -1,53 +1,35 @@
-//! Fields of a record: some bytes at an offset.
+//! The fields of a record, read and written by the table of them (`adf_format::fields`).
 
 ghost use Rattle.std.specs.Prelude.{◌≡◌, ◌+◌, ◌^◌, ◌<◌, ◌≤◌, ◌++◌, length, take, Some, None, IfSome, option_map};
 ghost use Rattle.adf_format.specs.Hex.{is_hex, hex_text};
 ghost use Rattle.adf_format.specs.Pointer.{pointer, pointer_text, is_blank, is_place};
-ghost use Rattle.adf_format.specs.Fields.{field, holds, number};
+ghost use Rattle.adf_format.specs.Fields.{field, holds};
+ghost use Rattle.adf_format.specs.RecordFields.{field_in, number_in, holds_tag, tag_text};
 ghost use Rattle.adf_format.specs.FirstFault.{is_pointer_to};
-ghost use Rattle.adf_format.specs.Records.{pointer_in};
+ghost use Rattle.adf_format.specs.Records.{pointer_of};
 ghost use Rattle.disk_ptr.specs.View.{view, HasOffset};
-ghost use Rattle.adf_records.specs.View.{fault};
 
-use crate::BadField;
-use disk_ptr::{DiskPtr, decode, encode, place, read_long_hex, write_long_hex};
-
-/// Where a field stands in its record, and how long it is.
-#[derive(Clone, Copy)]
-pub struct Span {
-    pub offset: usize,
-    pub length: usize,
-}
-
-/// A broken rule at an offset.
-pub fn bad(rule: u8, offset: usize) -> Option<BadField>
-    requires { offset < 65536 }
-    ensures { option_map fault result ≡ Some (record { rule = rule; place = offset }) }
-{
-    Some(BadField {
-        rule,
-        offset: offset as u16,
-    })
-}
+use crate::{DiskPtr, decode, encode, read_long_hex, write_long_hex};
+use adf_format::fields::{Field, FieldKind};
 
 // ---- reading
 
 /// The bytes of a field.
-pub fn field(bytes: &[u8], at: Span) -> &[u8]
+pub fn bytes_of(bytes: &[u8], at: Field) -> &[u8]
     requires { at.offset + at.length ≤ length bytes.now }
-    ensures value { result.now ≡ field bytes.now at.offset at.length }
+    ensures value { result.now ≡ field_in bytes.now at }
     ensures long { length result.now ≡ at.length }
 {
     &bytes[at.offset..at.offset + at.length]
 }
 
-/// A copy of the bytes at an offset.
-pub fn copied<const N: usize>(bytes: &[u8], offset: usize) -> [u8; N]
-    requires { offset + N ≤ length bytes.now }
-    ensures { result ≡ field bytes.now offset N }
+/// A copy of the bytes of a field, of the length that is wanted.
+pub fn copied<const N: usize>(bytes: &[u8], at: Field) -> [u8; N]
+    requires { at.offset + N ≤ length bytes.now }
+    ensures { result ≡ field bytes.now at.offset N }
 {
     let mut text = [0u8; N];
-    text.copy_from_slice(&bytes[offset..offset + N]);
+    text.copy_from_slice(&bytes[at.offset..at.offset + N]);
     text
 }
 
@@ -59,82 +41,93 @@ pub fn holds(bytes: &[u8], offset: usize, text: &[u8]) -> bool
     &bytes[offset..offset + text.len()] == text
 }
 
+/// Whether the tag stands in its field; a field of another kind has none to compare.
+pub fn holds_tag(bytes: &[u8], at: Field) -> bool
+    requires { at.offset + length (tag_text at) ≤ length bytes.now }
+    ensures { result ≡ holds_tag bytes.now at }
+{
+    match at.kind {
+        FieldKind::Tag(text) => holds(bytes, at.offset, &text),
+        _ => holds(bytes, at.offset, &[]),
+    }
+}
+
 /// Whether a field is hexadecimal.
-pub fn is_number(bytes: &[u8], at: Span) -> bool
+pub fn is_number(bytes: &[u8], at: Field) -> bool
     requires some { 1 ≤ at.length }
     requires few { at.length ≤ 16 }
     requires within { at.offset + at.length ≤ length bytes.now }
-    ensures { result ≡ is_hex (field bytes.now at.offset at.length) }
+    ensures { result ≡ is_hex (field_in bytes.now at) }
 {
-    read_long_hex(field(bytes, at)).is_some()
+    read_long_hex(bytes_of(bytes, at)).is_some()
 }
 
 /// The number of a hexadecimal field, or 0.
-#[tactic(auto, using(crate::proofs::TextLaws::some_power))]
-pub fn number(bytes: &[u8], at: Span) -> u64
+#[tactic(auto, using(crate::proofs::Digits::some_power))]
+pub fn number(bytes: &[u8], at: Field) -> u64
     requires some { 1 ≤ at.length }
     requires few { at.length ≤ 16 }
     requires within { at.offset + at.length ≤ length bytes.now }
-    ensures value { result ≡ number bytes.now at.offset at.length }
+    ensures value { result ≡ number_in bytes.now at }
     ensures small { result < 16 ^ at.length }
 {
-    match read_long_hex(field(bytes, at)) {
+    match read_long_hex(bytes_of(bytes, at)) {
         Some(value) => value,
         None => 0,
     }
 }
 
-/// The pointer at an offset.
-pub fn pointer_at(bytes: &[u8], offset: usize) -> Option<DiskPtr>
-    requires { offset + 12 ≤ length bytes.now }
-    ensures value { option_map view result ≡ pointer (field bytes.now offset 12) }
+/// The pointer of a field: none only if its bytes are no pointer.
+pub fn pointer_at(bytes: &[u8], at: Field) -> Option<DiskPtr>
+    requires { at.offset + 12 ≤ length bytes.now }
+    ensures value { option_map view result ≡ pointer (field bytes.now at.offset 12) }
     ensures offset { IfSome result HasOffset }
 {
-    decode(&copied(bytes, offset))
+    decode(&copied(bytes, at))
 }
 
-/// The pointer at an offset, or the blank one.
-pub fn pointer_in(bytes: &[u8], offset: usize) -> DiskPtr
-    requires { offset + 12 ≤ length bytes.now }
-    ensures value { view result ≡ pointer_in bytes.now offset }
+/// The pointer of a field, or the blank one.
+pub fn pointer_or_blank(bytes: &[u8], at: Field) -> DiskPtr
+    requires { at.offset + 12 ≤ length bytes.now }
+    ensures value { view result ≡ pointer_of bytes.now at }
     ensures offset { HasOffset result }
 {
-    match pointer_at(bytes, offset) {
+    match pointer_at(bytes, at) {
         Some(p) => p,
         None => DiskPtr::Blank,
     }
 }
 
-/// Whether the blank pointer stands at an offset.
-pub fn is_blank(bytes: &[u8], offset: usize) -> bool
-    requires { offset + 12 ≤ length bytes.now }
-    ensures { result ≡ is_blank (field bytes.now offset 12) }
+/// Whether a field is the blank pointer.
+pub fn is_blank(bytes: &[u8], at: Field) -> bool
+    requires { at.offset + 12 ≤ length bytes.now }
+    ensures { result ≡ is_blank (field bytes.now at.offset 12) }
 {
-    match pointer_at(bytes, offset) {
+    match pointer_at(bytes, at) {
         Some(DiskPtr::Blank) => true,
         Some(DiskPtr::At { .. }) => false,
         None => false,
     }
 }
 
-/// Whether the pointer to some place stands at an offset.
-pub fn is_place(bytes: &[u8], offset: usize) -> bool
-    requires { offset + 12 ≤ length bytes.now }
-    ensures { result ≡ is_place (field bytes.now offset 12) }
+/// Whether a field is the pointer to some place.
+pub fn is_place(bytes: &[u8], at: Field) -> bool
+    requires { at.offset + 12 ≤ length bytes.now }
+    ensures { result ≡ is_place (field bytes.now at.offset 12) }
 {
-    match pointer_at(bytes, offset) {
+    match pointer_at(bytes, at) {
         Some(DiskPtr::Blank) => false,
         Some(DiskPtr::At { .. }) => true,
         None => false,
     }
 }
 
-/// Whether the pointer to this place stands at an offset.
-pub fn points_to(bytes: &[u8], offset: usize, place: u64) -> bool
-    requires { offset + 12 ≤ length bytes.now }
-    ensures { result ≡ is_pointer_to (field bytes.now offset 12) place }
+/// Whether a field is the pointer to this place.
+pub fn points_to(bytes: &[u8], at: Field, place: u64) -> bool
+    requires { at.offset + 12 ≤ length bytes.now }
+    ensures { result ≡ is_pointer_to (field bytes.now at.offset 12) place }
 {
-    match pointer_at(bytes, offset) {
+    match pointer_at(bytes, at) {
         Some(DiskPtr::Blank) => false,
         Some(DiskPtr::At { block, offset }) => u64::from(block) * 4096 + u64::from(offset) == place,
         None => false,
@@ -153,6 +146,19 @@ pub fn put(into: &mut [u8], at: usize, piece: &[u8]) -> usize
     let end = at + piece.len();
     into[at..end].copy_from_slice(piece);
     end
+}
+
+/// Writes the text of a tag behind what is written, and says where it ends; a field of another kind has none to write.
+pub fn put_tag(into: &mut [u8], at: usize, tag: Field) -> usize
+    requires { at + length (tag_text tag) ≤ length into.old }
+    ensures end { result ≡ at + length (tag_text tag) }
+    ensures long { length into.new ≡ length into.old }
+    ensures text { take result into.new ≡ take at into.old ++ tag_text tag }
+{
+    match tag.kind {
+        FieldKind::Tag(text) => put(into, at, &text),
+        _ => put(into, at, &[]),
+    }
 }
 
 /// Writes a number in so many digits behind what is written, and says where it ends.
