@@ -1,4 +1,4 @@
--- Where a child is placed in a file all of whose gaps are fillers: behind the end.
+-- Where a child is placed in a file all of whose gaps are fillers: behind the end, where the limit allows it.
 use Rattle.std.proofs.Common.{◌≡◌, ◌⊎◌, inl, inr, ℕ, zero, suc, refl, sym, ◌∙◌, ap, subst, arith, List, [], ◌∷◌, ◌++◌, length, get_or, ◌+◌, ◌*◌, ◌<◌, ◌≤◌, Bool, true, false}
 use Rattle.std.proofs.lemmas.Bool.Decides.{nat_tests}
 use Rattle.std.specs.Prelude.{Option, Some, None, Result, Ok, Err, cond, find, nat_lt, slice_set, ◌==◌}
@@ -41,6 +41,23 @@ taken_behind limit n p t all e = by_limit (nat_lt (limit * 4096) (p.heap.end + 1
         → (behind_end n p ≡ t) × (p.heap.end + 1 + n ≤ limit * 4096)
     by_limit true test h = absurd (no_way (record { asked = n; end = p.heap.end }) t h)
     by_limit false test h = (same_ok (behind_end n p) t h, grind (arith, nat_tests))
+
+-- a take that fits, and one that does not
+took : (limit n : ℕ) (p : Placement) → AllFillers p.heap.gaps → p.heap.end + 1 + n ≤ limit * 4096 → take_bytes limit n p ≡ Ok (behind_end n p)
+took limit n p all fits =
+    ap (λ (o : Option Extent). take_from limit n p.heap o >>= λ (t : ℕ × Heap). Ok (t.0, record p { heap = t.1 })) (none_fits n p.heap.gaps all)
+    ∙ ap (λ b. cond {A = Result (ℕ × Heap) LimitReached} b (Err (record { asked = n; end = p.heap.end })) (Ok (p.heap.end + 1, record p.heap { end = p.heap.end + n })) >>= λ (t : ℕ × Heap). Ok (t.0, record p { heap = t.1 })) (within (p.heap.end + 1 + n) (limit * 4096) fits)
+  where
+    within : (a b : ℕ) → a ≤ b → nat_lt b a ≡ false
+    within a b le = grind (arith, nat_tests)
+
+not_took : (limit n : ℕ) (p : Placement) → AllFillers p.heap.gaps → limit * 4096 < p.heap.end + 1 + n → take_bytes limit n p ≡ Err (record { asked = n; end = p.heap.end })
+not_took limit n p all over =
+    ap (λ (o : Option Extent). take_from limit n p.heap o >>= λ (t : ℕ × Heap). Ok (t.0, record p { heap = t.1 })) (none_fits n p.heap.gaps all)
+    ∙ ap (λ b. cond {A = Result (ℕ × Heap) LimitReached} b (Err (record { asked = n; end = p.heap.end })) (Ok (p.heap.end + 1, record p.heap { end = p.heap.end + n })) >>= λ (t : ℕ × Heap). Ok (t.0, record p { heap = t.1 })) (beyond (limit * 4096) (p.heap.end + 1 + n) over)
+  where
+    beyond : (a b : ℕ) → a < b → nat_lt a b ≡ true
+    beyond a b lt = grind (arith, nat_tests)
 
 -- ---- the parent's table
 
@@ -119,3 +136,38 @@ module _ (limit : ℕ) (tree : Tree) (s : ℕ) (p : Placement) (parent : Node) (
       let at_end : (grow_table limit tree s (with_header tree p) >>= filled_in) ≡ Ok q = subst (λ (h : Taken). (grow_table limit tree s (with_new_parts h.1 h.0) >>= filled_in) ≡ Ok q) (sym taken.0) r.2 in
       let of_parts : (grow_of from (children_at tree s) >>= filled_in) ≡ Ok q = subst (λ (x : NodeParts). (grow_of x (children_at tree s) >>= filled_in) ≡ Ok q) its_parts at_end in
       by_test (entry_count from.table == length parent.children) q refl taken.1 (subst (λ (o : Option Node). (grow_of from (children_of o) >>= filled_in) ≡ Ok q) here of_parts)
+
+  -- ---- and so it is placed
+
+  abbrev after_header : Result Taken LimitReached → Result Placement LimitReached
+  after_header r = r >>= λ (h : Taken). (grow_table limit tree s (with_new_parts h.1 h.0) >>= filled_in)
+
+  abbrev by_full : Bool → Result Placement LimitReached
+  by_full b = cond {A = Result GrownTable LimitReached} b table_taken (Ok (record { placed = with_header tree p; given = [] })) >>= filled_in
+
+  abbrev after_table : Result Taken LimitReached → Result Placement LimitReached
+  after_table r = (r >>= λ (t : Taken). Ok (with_table t.1 s (grown_entries (length parent.children)) t.0)) >>= filled_in
+
+  once_there : p.heap.end + 1 + node_length tree.wide ≤ limit * 4096 → place_child limit tree s p ≡ by_full (entry_count from.table == length parent.children)
+  once_there fits =
+      ap after_header (took limit (node_length tree.wide) p fill fits)
+      ∙ ap (λ (x : NodeParts). grow_of x (children_at tree s) >>= filled_in) its_parts
+      ∙ ap (λ (o : Option Node). grow_of from (children_of o) >>= filled_in) here
+
+  pub no_header : limit * 4096 < p.heap.end + 1 + node_length tree.wide → place_child limit tree s p ≡ Err (record { asked = node_length tree.wide; end = p.heap.end })
+  no_header over = ap after_header (not_took limit (node_length tree.wide) p fill over)
+
+  module _ (fits : p.heap.end + 1 + node_length tree.wide ≤ limit * 4096) where
+    pub in_place : (entry_count from.table == length parent.children) ≡ false → place_child limit tree s p ≡ Ok (with_header tree p)
+    in_place test = once_there fits ∙ ap by_full test
+
+    pub no_table : (entry_count from.table == length parent.children) ≡ true → limit * 4096 < p.heap.end + node_length tree.wide + 1 + table_length (grown_entries (length parent.children))
+        → place_child limit tree s p ≡ Err (record { asked = table_length (grown_entries (length parent.children)); end = p.heap.end + node_length tree.wide })
+    no_table test over = once_there fits ∙ ap by_full test ∙ ap after_table (not_took limit (table_length (grown_entries (length parent.children))) (with_header tree p) fill over)
+
+    pub moved : (entry_count from.table == length parent.children) ≡ true → p.heap.end + node_length tree.wide + 1 + table_length (grown_entries (length parent.children)) ≤ limit * 4096
+        → place_child limit tree s p ≡ Ok (with_moved tree s (grown_entries (length parent.children)) from p)
+    moved test room =
+        once_there fits ∙ ap by_full test ∙ ap after_table (took limit (table_length (grown_entries (length parent.children))) (with_header tree p) fill room)
+        ∙ ap (λ (g : GrownTable). filled_in g)
+        (same_with from (grown_entries (length parent.children)) (p.heap.end + node_length tree.wide + 1) (behind_end (table_length (grown_entries (length parent.children))) (with_header tree p)).1 its_parts)

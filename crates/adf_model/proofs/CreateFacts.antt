@@ -62,7 +62,7 @@ module _ (old : List ℕ) (tree : Tree) (p : Placement) (s : ℕ) (from : NodePa
   table_ends t e = ends_in t.place (table_length t.entries) (omega arith) (λ b. let same : cover (table_extents from.table) b ≡ in_range t.place (table_length t.entries) b + 0 = ap (λ (o : Option TablePart). cover (table_extents o) b) e in omega (arith, same))
 
   -- what may change covers what the heap writes, the gaps and the node's list
-  change_split : (b : ℕ) → cover (may_change old tree p l s from stands) b ≡ in_range 146 12 b + in_range 186 80 b + cover p.heap.gaps b + in_range from.header (node_length tree.wide) b + cover (table_extents from.table) b
+  pub change_split : (b : ℕ) → cover (may_change old tree p l s from stands) b ≡ in_range 146 12 b + in_range 186 80 b + cover p.heap.gaps b + in_range from.header (node_length tree.wide) b + cover (table_extents from.table) b
   change_split b =
       let whole = cover-append (heap_fields ++ p.heap.gaps) (own_list old tree p l s from stands) b in
       let front = cover-append heap_fields p.heap.gaps b in

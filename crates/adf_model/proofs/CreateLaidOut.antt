@@ -31,6 +31,8 @@ use Rattle.adf_format.specs.declared.types.Extent.{Extent}
 use Rattle.adf_model.proofs.TableMoved.{filled, filled_fills}
 use Rattle.adf_model.proofs.TableGrown.{moved_laid_out}
 use Rattle.adf_model.proofs.TableGrown as grown
+use Rattle.adf_model.specs.Untouched.{Stays, KeepsHead, KeepsDims}
+use Rattle.adf_model.proofs.CreateStays.{all_left}
 use Rattle.adf_model.proofs.ChildPlaced.{with_header, with_moved, set_append, child_placed}
 
 -- ---- what the tests of a create tell
@@ -47,10 +49,10 @@ three_true a b c e = (and_parts a b (first_true (a && b) c e)).1
 at_most : (m n : ℕ) → nat_le m n ≡ true → m ≤ n
 at_most m n e = grind (arith, nat_tests)
 
-short_label : (text : List ℕ) → is_label text ≡ true → length text ≤ 32
+pub short_label : (text : List ℕ) → is_label text ≡ true → length text ≤ 32
 short_label text e = at_most (length text) 32 (four_true (nat_le (length text) 32) (list_all is_printing text) (not (begins_with_space text)) (not (ends_with_space text)) e)
 
-label_of_name : (text : List ℕ) → is_name text ≡ true → is_label text ≡ true
+pub label_of_name : (text : List ℕ) → is_name text ≡ true → is_label text ≡ true
 label_of_name text e =
     four_true (is_label text) (nat_le 1 (length text)) (list_all (λ b. not (b == 47)) text) (not (bytes_eq text (codes ".")))
     (first_true (is_label text && nat_le 1 (length text) && list_all (λ b. not (b == 47)) text && not (bytes_eq text (codes "."))) (not (bytes_eq text (codes ".."))) e)
@@ -136,10 +138,15 @@ module _ (limit : ℕ) (image : List ℕ) (tree after : Tree) (p q : Placement) 
       ∙ ap (λ (x : NodeParts). shape child parent.children from x.table heap.end) (ap parts_or_none (at_set p.parts at.serial (Some (record from { table = Some t })) (Some child) None (there_inside p.parts at.serial from stands)))
       ∙ ap (pick t heap.end) test
 
+  -- what is left of the file where it was, from one placement to the next
+  abbrev pub Leaves : List ℕ → Placement → Type 0
+  Leaves new x = Stays tree p (Edit.Create at name label) x image new × KeepsHead image new × KeepsDims [] tree.wide p x image new
+
   -- what is written, and what it leaves
   abbrev pub Kept : Type 0
   Kept = ((new : List ℕ) → WritesAll (create_writes image tree p q at.serial name label) image new → LaysOut new after q)
       × WritesAll (create_writes image tree p q at.serial name label) image (all_written image (create_writes image tree p q at.serial name label)) × AllFillers q.heap.gaps
+      × ((new : List ℕ) → WritesAll (create_writes image tree p q at.serial name label) image new → Leaves new q)
 
   old_long : p.heap.end + 1 ≤ length image
   old_long = let e = l.end in omega (arith, e)
@@ -166,6 +173,12 @@ module _ (limit : ℕ) (image : List ℕ) (tree after : Tree) (p q : Placement) 
           subst (λ (ws : List Write). WritesAll ws image (all_written image ws)) (sym same)
               (writes_all (pick t (p.heap.end + node_length tree.wide) false) image reach (added.never_twice image image tree p at.serial parent from t name label l here stands has fill short_name short_text dims few free near)),
           subst (λ (x : Placement). AllFillers x.heap.gaps) is fill,
+          λ new all.
+              let its = subst (λ (ws : List Write). WritesAll ws image new) same all in
+              subst (Leaves new) (entry_placed ∙ is)
+              (all_left image new tree p at name label parent from l here stands
+              (added.keeps image new tree p at.serial parent from t name label l here stands has fill short_name short_text dims few free near its)
+              (added.shape_stays image new tree p at.serial parent from t name label l here stands has fill short_name short_text dims few free near its) t (new_node name label) child its_heap),
         )
       where
         reach : AreReached (length image) (pick t (p.heap.end + node_length tree.wide) false)
@@ -209,6 +222,13 @@ module _ (limit : ℕ) (image : List ℕ) (tree after : Tree) (p q : Placement) 
               (writes_all (pick new_table new_heap.end true) image reach
               (grown.never_twice image image tree p at.serial parent from (grown_entries (length parent.children)) name label l here stands fill short_name short_text dims few (room_grown (length parent.children)) (few_grown (length parent.children) room) near)),
           subst (λ (x : Placement). AllFillers x.heap.gaps) (moved_placed ∙ is) (filled_fills from.table p.heap.gaps fill),
+          λ new all.
+              let its = subst (λ (ws : List Write). WritesAll ws image new) same all in
+              subst (Leaves new) (moved_placed ∙ is)
+              (all_left image new tree p at name label parent from l here stands
+              (grown.keeps image new tree p at.serial parent from (grown_entries (length parent.children)) name label l here stands fill short_name short_text dims few (room_grown (length parent.children)) (few_grown (length parent.children) room) near its)
+              (grown.shape_stays image new tree p at.serial parent from (grown_entries (length parent.children)) name label l here stands fill short_name short_text dims few (room_grown (length parent.children)) (few_grown (length parent.children) room) near its)
+              new_table (new_node name label) child new_heap),
         )
       where
         of_fills : (o : Option TablePart) (reached : ℕ) → p.heap.end + 1 ≤ reached → ((t : TablePart) → o ≡ Some t → t.place + table_length t.entries ≤ p.heap.end + 1) → AreReached reached (fill_writes o)
@@ -241,6 +261,7 @@ there (Some node) h = (node, refl)
 module _ (limit : ℕ) (image : List ℕ) (tree after : Tree) (p q : Placement) (at : NodeId) (name label : List ℕ) (is : IsCreation limit image tree after p q at name label) where
   all_kept : ((new : List ℕ) → WritesAll (create_writes image tree p q at.serial name label) image new → LaysOut new after q)
       × WritesAll (create_writes image tree p q at.serial name label) image (all_written image (create_writes image tree p q at.serial name label)) × AllFillers q.heap.gaps
+      × ((new : List ℕ) → WritesAll (create_writes image tree p q at.serial name label) image new → Stays tree p (Edit.Create at name label) q image new × KeepsHead image new × KeepsDims [] tree.wide p q image new)
   all_kept =
       let parent = there (node_at tree at.serial) (is.reached.live at refl) in
       let found = placed_too tree p at.serial parent.0 is.laid_out.same_nodes parent.1 in
@@ -257,3 +278,7 @@ module _ (limit : ℕ) (image : List ℕ) (tree after : Tree) (p q : Placement) 
   -- all gaps are fillers again
   pub create_fills : AllFillers q.heap.gaps
   create_fills = all_kept.2
+
+  -- all else of the file is left as it was
+  pub create_leaves : (new : List ℕ) → WritesAll (create_writes image tree p q at.serial name label) image new → Stays tree p (Edit.Create at name label) q image new × KeepsHead image new × KeepsDims [] tree.wide p q image new
+  create_leaves = all_kept.3

@@ -18,6 +18,7 @@ use Rattle.adf_format.specs.HeapRule.{no_parts}
 use Rattle.adf_format.specs.Records.{node_text}
 use Rattle.adf_format.specs.Spelled.{SaysNode, AllWide}
 use Rattle.adf_format.specs.Changes.{Writes}
+use Rattle.adf_format.proofs.BehindEnd.{counts_itself}
 use Rattle.adf_format.proofs.HeapLaws.{in_range}
 use Rattle.adf_format.proofs.FieldLaws.{field_beside, get_field, length-field}
 use Rattle.adf_format.proofs.SpelledParts.{node_says, node_long}
@@ -140,15 +141,6 @@ not_free ExtentKind.Filler f = refl
 none_free : (gaps : List Extent) → AllFillers gaps → filter is_free gaps ≡ []
 none_free [] all = refl
 none_free (g ∷ gs) all = rw (not_free g.kind all.0) (none_free gs all.1)
-
-counts_itself : (e : Extent) (es : List Extent) → 0 < count_of e.place e.length (e ∷ es)
-counts_itself e es = one_more (e.place == e.place) (e.length == e.length) (same e.place) (same e.length)
-  where
-    same : (n : ℕ) → (n == n) ≡ true
-    same n = grind (arith, nat_tests)
-
-    one_more : (a b : Bool) → a ≡ true → b ≡ true → 0 < cond (a && b) 1 0 + count_of e.place e.length es
-    one_more a b h k = rw (h, k) (omega arith)
 
 uncounted : (xs : List Extent) → ((place n : ℕ) → count_of place n xs ≡ 0) → xs ≡ []
 uncounted [] none = refl

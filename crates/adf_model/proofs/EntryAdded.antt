@@ -7,7 +7,7 @@ use Rattle.adf_format.specs.Fields.{field, text_field}
 use Rattle.adf_format.specs.Pointer.{To, pointer_text}
 use Rattle.adf_format.specs.Tree.{Tree, Node, IsTree, node_at}
 use Rattle.adf_format.specs.Tiles.{cover}
-use Rattle.adf_format.specs.Parts.{SpellsNode, SpellsTable, SpellsEntry, HasPointer, node_length, table_length}
+use Rattle.adf_format.specs.Parts.{SpellsNode, SpellsTable, SpellsEntry, HasPointer, node_length, table_length, dimension_digits}
 use Rattle.adf_format.specs.Placement.{Placement, Heap, NodeParts, TablePart, parts_of, node_extents, table_extents}
 use Rattle.adf_format.specs.LaysOut.{LaysOut, HasTable, fields_of, entry_count}
 use Rattle.adf_format.specs.HeapRule.{no_parts}
@@ -91,7 +91,7 @@ module _ (old new : List ℕ) (tree : Tree) (p : Placement) (s : ℕ) (parent : 
   ]
 
   module _ (all : WritesAll entry_list old new) where
-    keeps : KeepsBut (may_change old tree p l s from stands) p.heap.end old new
+    pub keeps : KeepsBut (may_change old tree p l s from stands) p.heap.end old new
     keeps = keeps_all old tree p s from l stands entry_list new all (λ b le.
         let e = cover_list b in let g = behind b le in let a = table_cover b in let c = in_table b in let d = in_header b in omega (arith, e, g, a, c, d))
 
@@ -110,6 +110,14 @@ module _ (old new : List ℕ) (tree : Tree) (p : Placement) (s : ℕ) (parent : 
         let h = header_ends old tree p s from l stands in
         let own = ap (λ n. in_range (from.header + 68) n b) (length-hex_text 8 (suc (length parent.children))) in
         let g = behind b (omega (arith, high, h)) in omega (arith, e, once, a, c, f, held, g, none, own)
+
+    -- the parent's dimensions stay
+    pub shape_stays : field new (from.header + 130) (12 * dimension_digits tree.wide) ≡ field old (from.header + 130) (12 * dimension_digits tree.wide)
+    shape_stays = field_kept (12 * dimension_digits tree.wide) (from.header + 130) old new (λ b low high.
+        let h = header_ends old tree p s from l stands in
+        let e = l.end in
+        all.others b (omega (arith, high, h, e))
+        (of_header b (omega (arith, low)) (omega (arith, high)) (range_out (from.header + 68) (length (hex_text 8 (suc (length parent.children)))) b (inr (let n = length-hex_text 8 (suc (length parent.children)) in omega (arith, n, low))))))
 
     of_table : (b : ℕ) → t.place ≤ b → b < t.place + table_length t.entries → in_range (t.place + 16 + 44 * length parent.children) (length (entry_text (text_field 32 name) (To (p.heap.end + 1)))) b ≡ 0 → cover (write_extents entry_list) b ≡ 0
     of_table b low high none =

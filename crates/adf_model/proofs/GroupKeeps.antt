@@ -61,12 +61,12 @@ no_text tree is serial e = by_node (node_at tree serial) refl e
     by_node (Some node) there e = by_link node (is_link node) there refl e
 
 -- an edit with nodes in one file, where links are followed to a node that is reached
-abbrev Reached : Files → Option NodeId → Type 0
+abbrev pub Reached : Files → Option NodeId → Type 0
 Reached files None = Unit {0}
 Reached files (Some node) = IsLiveAt files node × (link_text_at files node ≡ None)
 
 -- the followed node of an edit is one of its nodes
-followed_live : (files : Files) (edit : Edit) → list_any (λ (node : NodeId). not (is_live_in (open_at files node.file) node.serial)) (named_nodes edit) ≡ false → (node : NodeId) → followed edit ≡ Some node → IsLiveAt files node
+pub followed_live : (files : Files) (edit : Edit) → list_any (λ (node : NodeId). not (is_live_in (open_at files node.file) node.serial)) (named_nodes edit) ≡ false → (node : NodeId) → followed edit ≡ Some node → IsLiveAt files node
 followed_live files edit e node f = by_edit edit e f
   where
     first : (a b : Bool) → (not a || b) ≡ false → a ≡ true
@@ -99,7 +99,7 @@ followed_now (PutPart n selection given) node there f = refl
 followed_now (Link n wanted file path) node there f = refl
 
 -- what an edit is resolved to has a followed node that is reached
-resolve_reaches : (files : Files) → AreTrees files → (edit reached : Edit) → ((node : NodeId) → followed edit ≡ Some node → IsLiveAt files node) → resolve files edit ≡ Ok reached → Reached files (followed reached)
+pub resolve_reaches : (files : Files) → AreTrees files → (edit reached : Edit) → ((node : NodeId) → followed edit ≡ Some node → IsLiveAt files node) → resolve files edit ≡ Ok reached → Reached files (followed reached)
 resolve_reaches files trees edit reached live e = by_followed (followed edit) refl e
   where
     by_followed : (o : Option NodeId) → followed edit ≡ o → resolved files edit o ≡ Ok reached → Reached files (followed reached)
@@ -133,7 +133,7 @@ followed_in edit number e node f = by_edit edit e f
     by_edit (Link n wanted file path) e f = at n f (first n _ e)
 
 -- an edit whose followed node is reached, in the tree of its file
-reached_in_tree : (files : Files) (opened : Open) (number : ℕ) → IsTree opened.tree → open_at files number ≡ Some opened → (edit : Edit) → ((node : NodeId) → followed edit ≡ Some node → node.file ≡ number) → Reached files (followed edit) → IsReached opened.tree edit
+pub reached_in_tree : (files : Files) (opened : Open) (number : ℕ) → IsTree opened.tree → open_at files number ≡ Some opened → (edit : Edit) → ((node : NodeId) → followed edit ≡ Some node → node.file ≡ number) → Reached files (followed edit) → IsReached opened.tree edit
 reached_in_tree files opened number is here edit inside r = by_followed (followed edit) refl r
   where
     lives : (node : NodeId) → node.file ≡ number → IsLiveAt files node → IsSome (node_at opened.tree node.serial)

@@ -26,6 +26,7 @@ pub mod WalkTree
 pub mod WalkRows
 pub mod TreeOrder
 pub mod Renumbered
+pub mod NumberedLaidOut
 pub mod StrayBytes
 pub mod CheckLemmas
 pub mod SpellingLemmas
@@ -56,3 +57,9 @@ pub mod UntouchedData
 pub mod UntouchedParts
 pub mod GroupStands
 pub mod TornTail
+pub mod OneFileLaws
+pub mod FaultBound
+pub mod WalkCounts
+pub mod WalkNodes
+pub mod WalkNames
+pub mod CreateStays

@@ -19,7 +19,7 @@ less_or a b = elim (leb_tells (suc a) b) [ inl h ↦ inl h.1 | inr h ↦ inr (om
 
 -- ---- one write
 
-get_left : (xs ys : List ℕ) (b : ℕ) → b < length xs → slice_get (xs ++ ys) b ≡ slice_get xs b
+pub get_left : (xs ys : List ℕ) (b : ℕ) → b < length xs → slice_get (xs ++ ys) b ≡ slice_get xs b
 get_left [] ys b lt = absurd (omega (arith, lt))
 get_left (x ∷ xs) ys zero lt = refl
 get_left (x ∷ xs) ys (suc b) lt = get_left xs ys b (omega (arith, lt))

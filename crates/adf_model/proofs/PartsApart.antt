@@ -12,6 +12,7 @@ use Rattle.adf_format.specs.Parts.{node_length, SpellsChunk}
 use Rattle.adf_format.specs.Placement.{Placement, NodeParts, TablePart, ChunkPart, extent, parts_of, head_extents, live_extents, all_extents, extents_of, node_extents, table_extents, chunk_table_extents, chunk_extents}
 use Rattle.adf_format.specs.LaysOut.{LaysOut}
 use Rattle.adf_format.specs.Changes.{AllApart, heap_fields}
+use Rattle.adf_format.proofs.BehindEnd.{AllLong, long_chunk_table, long_chunks, long_node}
 use Rattle.adf_format.proofs.HeapLaws.{in_range}
 use Rattle.adf_format.proofs.HeapSteps.{cover-append}
 use Rattle.adf_model.proofs.CreatedNodes.{there_inside}
@@ -86,26 +87,7 @@ cover_up_to xs end b t some = elim (leb_tells b end) [
   | inr h ↦ absurd (let none : cover xs b ≡ 0 = t.inside b h.1 in omega (arith, none, some))
 ]
 
--- ---- extents with bytes
-
-abbrev pub AllLong : List Extent → Type 0
-AllLong xs = AllByRecursion (λ (e : Extent). 0 < e.length) xs
-
-pub long_append : (xs ys : List Extent) → AllLong xs → AllLong ys → AllLong (xs ++ ys)
-long_append [] ys h k = k
-long_append (x ∷ xs) ys h k = (h.0, long_append xs ys h.1 k)
-
-long_table : (table : Option TablePart) → AllLong (table_extents table)
-long_table None = tt
-long_table (Some t) = (omega arith, tt)
-
-long_chunk_table : (table : Option ℕ) (count : ℕ) → AllLong (chunk_table_extents table count)
-long_chunk_table None count = tt
-long_chunk_table (Some place) count = (omega arith, tt)
-
-long_chunks : (image : List ℕ) (chunks : List ChunkPart) → AllByRecursion (λ (c : ChunkPart). SpellsChunk (field image c.place c.length) c.place c.length) chunks → AllLong (chunk_extents chunks)
-long_chunks image [] h = tt
-long_chunks image (c ∷ cs) h = (let long : 21 ≤ c.length = h.0.long in omega (arith, long), long_chunks image cs h.1)
+-- ---- extents that lie apart from ranges
 
 pub all_apart : (ranges : List Extent) (end : ℕ) (xs : List Extent) → AllLong xs → ((b : ℕ) → 0 < cover xs b → (b ≤ end) × (cover ranges b ≡ 0)) → AllApart ranges end xs
 all_apart ranges end [] long h = tt
@@ -164,21 +146,9 @@ module _ (image : List ℕ) (tree : Tree) (p : Placement) (l : LaysOut image tre
   pub up_to_end : (b : ℕ) → 0 < cover (live_extents tree.wide p) b → b ≤ p.heap.end
   up_to_end b some = cover_up_to (all_extents tree.wide p) p.heap.end b l.tiles (let e = cover_all tree.wide p b in omega (arith, e, some))
 
-  long_node : (k : ℕ) (m : Node) (ms : NodeParts) → node_at tree k ≡ Some m → parts_of p k ≡ Some ms → AllLong (node_extents tree.wide ms)
-  long_node k m ms at placed = (
-    header tree.wide,
-    long_append (table_extents ms.table ++ chunk_table_extents ms.chunk_table (length ms.chunks)) (chunk_extents ms.chunks)
-        (long_append (table_extents ms.table) (chunk_table_extents ms.chunk_table (length ms.chunks)) (long_table ms.table) (long_chunk_table ms.chunk_table (length ms.chunks)))
-        (long_chunks image ms.chunks (l.nodes k m ms at placed).chunks),
-  )
-    where
-      header : (w : Bool) → 0 < node_length w
-      header false = omega arith
-      header true = omega arith
-
   -- another node meets nothing of what may change
   pub others_apart : (k : ℕ) (m : Node) (ms : NodeParts) → k ≢ s → node_at tree k ≡ Some m → parts_of p k ≡ Some ms → AllApart may_change p.heap.end (node_extents tree.wide ms)
-  others_apart k m ms differ at placed = all_apart may_change p.heap.end (node_extents tree.wide ms) (long_node k m ms at placed) far
+  others_apart k m ms differ at placed = all_apart may_change p.heap.end (node_extents tree.wide ms) (long_node image tree p m ms (l.nodes k m ms at placed)) far
     where
       far : (b : ℕ) → 0 < cover (node_extents tree.wide ms) b → (b ≤ p.heap.end) × (cover may_change b ≡ 0)
       far b some =

@@ -23,7 +23,7 @@ at_position (x ∷ xs) s h = elim (eqb_tells x s) [
   | inr e ↦ ap (λ t. slice_get (x ∷ xs) (if t then 0 else suc (position_of xs s))) e.0 ∙ at_position xs s (elim (or_parts (x == s) (is_among xs s) h) [ inl t ↦ absurd (not_true (sym e.0 ∙ t)) | inr t ↦ t ])
 ]
 
-among_get : (xs : List ℕ) (k s : ℕ) → slice_get xs k ≡ Some s → IsAmong xs s
+pub among_get : (xs : List ℕ) (k s : ℕ) → slice_get xs k ≡ Some s → IsAmong xs s
 among_get [] k s e = absurd (not_there s e)
 among_get (x ∷ xs) zero s e = subst (λ y. IsAmong (x ∷ xs) y) (same_Some x s e) (among_head x xs)
 among_get (x ∷ xs) (suc k) s e = or_right (x == s) (is_among xs s) (among_get xs k s e)
@@ -122,12 +122,12 @@ map_among f (x ∷ xs) d h = elim (eqb_tells x d) [
   ]
 ]
 
-live_within : (xs : List (Option Node)) (k : ℕ) → IsSome (slice_index_or xs k None) → k < length xs
+pub live_within : (xs : List (Option Node)) (k : ℕ) → IsSome (slice_index_or xs k None) → k < length xs
 live_within [] k h = absurd (not_true h)
 live_within (x ∷ xs) zero h = omega arith
 live_within (x ∷ xs) (suc k) h = let r = live_within xs k h in omega (arith, r)
 
-index_map : (g : ℕ → Option Node) (xs : List ℕ) (k s : ℕ) → slice_get xs k ≡ Some s → slice_index_or (map g xs) k None ≡ g s
+pub index_map : {A : Type 0} (g : ℕ → Option A) (xs : List ℕ) (k s : ℕ) → slice_get xs k ≡ Some s → slice_index_or (map g xs) k None ≡ g s
 index_map g [] k s e = absurd (not_there s e)
 index_map g (x ∷ xs) zero s e = ap g (same_Some x s e)
 index_map g (x ∷ xs) (suc k) s e = index_map g xs k s e
@@ -165,10 +165,10 @@ module _ (tree : Tree) (is : IsTree tree) where
   abbrev order : List ℕ
   order = tree_order tree
 
-  abbrev pos : ℕ → ℕ
+  abbrev pub pos : ℕ → ℕ
   pos s = position_of (tree_order tree) s
 
-  abbrev new : Tree
+  abbrev pub new : Tree
   new = numbered tree
 
   once : Once (tree_order tree)
@@ -186,22 +186,22 @@ module _ (tree : Tree) (is : IsTree tree) where
       by_case false e = absurd (let none : times s (tree_order tree) ≡ 0 = times_none s (tree_order tree) e in
           let one : times s (tree_order tree) ≡ 1 = listed_times tree is s ∙ ap (λ t. if t then 1 else 0) live in omega (arith, none, one))
 
-  live_listed : (s : ℕ) → IsAmong (tree_order tree) s → IsSome (node_at tree s)
+  pub live_listed : (s : ℕ) → IsAmong (tree_order tree) s → IsSome (node_at tree s)
   unfolding tree_order
   live_listed s h = only_live tree is 256 0 s is.root h
 
-  root_first : slice_get (tree_order tree) 0 ≡ Some 0
+  pub root_first : slice_get (tree_order tree) 0 ≡ Some 0
   unfolding tree_order
   root_first = refl
 
-  at_pos : (s : ℕ) → IsSome (node_at tree s) → slice_get (tree_order tree) (pos s) ≡ Some s
+  pub at_pos : (s : ℕ) → IsSome (node_at tree s) → slice_get (tree_order tree) (pos s) ≡ Some s
   at_pos s live = at_position (tree_order tree) s (listed s live)
 
   pos_root : pos 0 ≡ 0
   pos_root = position_at (tree_order tree) 0 0 once root_first
 
   -- the node at a new number
-  node_new : (k s : ℕ) → slice_get (tree_order tree) k ≡ Some s → node_at new k ≡ renumbered_node (tree_order tree) (node_at tree s)
+  pub node_new : (k s : ℕ) → slice_get (tree_order tree) k ≡ Some s → node_at new k ≡ renumbered_node (tree_order tree) (node_at tree s)
   node_new k s e = index_map (λ s. renumbered_node (tree_order tree) (node_at tree s)) (tree_order tree) k s e
 
   children_new : (s : ℕ) → IsSome (node_at tree s) → children_at new (pos s) ≡ map pos (children_at tree s)
@@ -214,10 +214,10 @@ module _ (tree : Tree) (is : IsTree tree) where
   live_new s live = ap is_some (node_new (pos s) s (at_pos s live)) ∙ renumbered_live (tree_order tree) (node_at tree s) ∙ live
 
   -- a node with a new number has an old one
-  abbrev Came : ℕ → Type 0
+  abbrev pub Came : ℕ → Type 0
   Came k = (s : ℕ) × IsSome (node_at tree s) × (k ≡ pos s) × (slice_get (tree_order tree) k ≡ Some s)
 
-  came : (k : ℕ) → IsSome (node_at new k) → Came k
+  pub came : (k : ℕ) → IsSome (node_at new k) → Came k
   came k live = by_case (slice_get (tree_order tree) k) refl
     where
       by_case : (o : Option ℕ) → slice_get (tree_order tree) k ≡ o → Came k

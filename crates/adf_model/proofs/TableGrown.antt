@@ -7,7 +7,7 @@ use Rattle.adf_format.specs.Fields.{field, text_field}
 use Rattle.adf_format.specs.Pointer.{To, pointer, pointer_text}
 use Rattle.adf_format.specs.Tree.{Tree, Node, IsTree, node_at}
 use Rattle.adf_format.specs.Tiles.{cover}
-use Rattle.adf_format.specs.Parts.{SpellsNode, SpellsTable, SpellsEntry, node_length, table_length}
+use Rattle.adf_format.specs.Parts.{SpellsNode, SpellsTable, SpellsEntry, node_length, table_length, dimension_digits}
 use Rattle.adf_format.specs.Placement.{Placement, Heap, NodeParts, TablePart, parts_of, node_extents, table_extents}
 use Rattle.adf_format.specs.LaysOut.{LaysOut, HasTable, fields_of}
 use Rattle.adf_format.specs.HeapRule.{no_parts}
@@ -108,7 +108,7 @@ module _ (old new : List ℕ) (tree : Tree) (p : Placement) (s : ℕ) (parent : 
   ]
 
   module _ (all : WritesAll moved_list old new) where
-    keeps : KeepsBut (may_change old tree p l s from stands) p.heap.end old new
+    pub keeps : KeepsBut (may_change old tree p l s from stands) p.heap.end old new
     keeps = keeps_all old tree p s from l stands moved_list new all (λ b le.
         let e = cover_list b in let g = behind b le in let d = in_header b in omega (arith, e, g, d))
 
@@ -126,6 +126,14 @@ module _ (old new : List ℕ) (tree : Tree) (p : Placement) (s : ℕ) (parent : 
         let h = header_ends old tree p s from l stands in
         let own = ap (λ n. in_range (from.header + 68) n b) fields_long in
         let g = behind b (omega (arith, high, h)) in omega (arith, e, once, f, held, g, none, own)
+
+    -- the parent's dimensions stay
+    pub shape_stays : field new (from.header + 130) (12 * dimension_digits tree.wide) ≡ field old (from.header + 130) (12 * dimension_digits tree.wide)
+    shape_stays = field_kept (12 * dimension_digits tree.wide) (from.header + 130) old new (λ b low high.
+        let h = header_ends old tree p s from l stands in
+        let e = l.end in
+        all.others b (omega (arith, high, h, e))
+        (of_header b (omega (arith, low)) (omega (arith, high)) (range_out (from.header + 68) (length fields_text) b (inr (let n = fields_long in omega (arith, n, low))))))
 
     of_lists : (b : ℕ) → 186 ≤ b → b < 186 + 80 → cover (write_extents moved_list) b ≡ 0
     of_lists b low high =

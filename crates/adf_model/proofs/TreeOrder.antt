@@ -28,7 +28,7 @@ times-append q [] ys = omega arith
 times-append q (x ∷ xs) ys = ap (λ n. cond (x == q) 1 0 + n) (times-append q xs ys) ∙ sym (add_assoc (cond (x == q) 1 0) (times q xs) (times q ys))
 
 -- the sum of f over a list
-abbrev total : (ℕ → ℕ) → List ℕ → ℕ
+abbrev pub total : (ℕ → ℕ) → List ℕ → ℕ
 total f [] = 0
 total f (x ∷ xs) = f x + total f xs
 

@@ -14,3 +14,5 @@ pub mod Answers
 pub mod Steps
 pub mod Costs
 pub mod Creation
+pub mod OneFile
+pub mod FaultReplies

@@ -5,16 +5,20 @@
 
 mod calls;
 mod checks;
+pub mod create_laws;
 pub mod data_laws;
 pub mod edit_laws;
 mod error;
+pub mod fault_laws;
 pub mod laws;
 mod lists;
+pub mod one_file_laws;
 mod spelling;
 pub mod standing_laws;
 mod tree;
 pub mod tree_laws;
 pub mod untouched_laws;
+pub mod walk_laws;
 
 pub use adf_format::{DataType, Format, Listing};
 pub use calls::TreeCalls;

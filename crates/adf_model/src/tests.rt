@@ -1,5 +1,6 @@
 use crate::{
-    DataType, Shape, element_size, is_label, is_name, is_shape, is_wide_shape, laws, size, spell,
+    DataType, Shape, create_laws, element_size, fault_laws, is_label, is_name, is_shape,
+    is_wide_shape, laws, one_file_laws, size, spell, tree_laws, walk_laws,
 };
 use std::test::Fail;
 
@@ -107,4 +108,9 @@ fn laws_are_calls() {
     laws::placements_stay();
     laws::entry_comes_first();
     laws::data_stand_alone();
+    one_file_laws::one_file_as_many();
+    fault_laws::faults_bound_replies();
+    walk_laws::walks_find_trees();
+    create_laws::created_child_leaves_the_rest();
+    tree_laws::numbering_keeps_layouts();
 }

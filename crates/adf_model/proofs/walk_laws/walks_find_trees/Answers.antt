@@ -1,0 +1,5 @@
+use Rattle.adf_model.proofs.WalkNames.{walk_sound}
+use Rattle.adf_model.proofs.walk_laws.walks_find_trees.Goals as goal
+
+pub returns : goal.returns
+returns c = walk_sound
