@@ -1,0 +1,83 @@
+-- What a line makes, from what its reading and its call say.
+use Rattle.std.proofs.Common.{◌≡◌, ℕ, ◌^◌, ◌<◌, ◌≤◌, inl, inr, List, [], ◌∷◌, length, true, false, Some, None, Result, Ok, Err, OnOk, IfErr, refl, sym, ap, subst}
+use Rattle.adf_model.specs.Slots.{Files, Devices}
+use Rattle.adf_model.specs.Steps.{Call, Opened, Closed, Skipped, Misread, Fresh}
+use Rattle.adf_model.specs.declared.error.AdfError.{AdfError}
+use Rattle.adf_model.specs.declared.error.AdfError.TheVariants as error
+use Rattle.adf_model.specs.declared.tree.Edit.{Edit}
+use Rattle.adf_model.specs.declared.tree.Edit.TheVariants as edit
+use Rattle.adf_model.specs.declared.tree.Query.{Query}
+use Rattle.adf_model.specs.declared.tree.Query.TheVariants.{ChildrenOf}
+use Rattle.call_script.specs.Lines.{IsLine, IsRefusal, AreTokens, AreQueryTokens, AreGroupTokens, AreEditTokens}
+use Rattle.call_script.specs.Replies.{reply_line, refusal_text}
+use Rattle.call_script.specs.declared.calls.Answer.{Answer}
+use Rattle.call_script.specs.declared.calls.Answer.TheVariants as answer
+use Rattle.call_script.specs.declared.calls.Call as script
+use Rattle.call_script.specs.declared.calls.Call.TheVariants as asks
+use Rattle.call_script.specs.declared.calls.OpenMode.{OpenMode}
+use Rattle.call_script.specs.declared.calls.OpenMode.TheVariants.{New}
+use Rattle.session.specs.Calls.{IsBuiltQuery, IsBuiltEdit, IsBuiltGroup, PlainStep}
+use Rattle.session.specs.Turns.{call_made, IsBuilt, is_skipped, Says}
+use Rattle.session.specs.Turns.Says.{too_long, skips, makes, misreads, lacks_memory}
+
+built_query : (tokens : List (List ℕ)) (query : Query) → AreQueryTokens tokens query → IsBuiltQuery query
+built_query tokens (ChildrenOf node) are = tt
+built_query tokens _ are = absurd are
+
+built_edit : (tokens : List (List ℕ)) (edit : Edit) → AreEditTokens tokens edit → IsBuiltEdit edit
+built_edit tokens (edit.Create parent name label) are = tt
+built_edit tokens _ are = absurd are
+
+built_group : (tokens : List (List ℕ)) (edits : List Edit) → AreGroupTokens tokens edits → IsBuiltGroup edits
+built_group tokens [] are = absurd are
+built_group tokens (edit ∷ []) are = built_edit tokens edit are
+built_group tokens (edit ∷ other ∷ edits) are = absurd are
+
+built_tokens : (tokens : List (List ℕ)) (call : script.Call) → AreTokens tokens call → IsBuilt call
+built_tokens tokens (asks.Open number mode limit) are = are.2
+built_tokens tokens (asks.Close number) are = tt
+built_tokens tokens (asks.Ask query) are = built_query tokens query are
+built_tokens tokens (asks.Edit edits) are = built_group are.0 edits are.2
+
+-- what a line makes may be made
+pub built : (line : List ℕ) (call : script.Call) → IsLine line call → IsBuilt call
+built line call is = built_tokens is.tokens call is.call_is
+
+-- an opening and a closing are made with the answer to them
+pub opened : (files after : Files) (before now : Devices) (number : ℕ) (mode : OpenMode) (limit : ℕ) (result : Result Unit AdfError) (said : Answer)
+    → OnOk result (said ≡ answer.Done) → IfErr result (λ error. said ≡ answer.Refused error) → PlainStep files before (Opened number (Fresh false) limit result) now after
+    → (made : Call) × (call_made (asks.Open number mode limit) said ≡ Some made) × PlainStep files before made now after
+opened files after before now number New limit (Ok done) said is _ step = (_, ap (call_made (asks.Open number New limit)) is, step)
+opened files after before now number New limit (Err error) said _ is step = (_, ap (call_made (asks.Open number New limit)) is, step)
+
+pub closed : (files after : Files) (before now : Devices) (number : ℕ) (result : Result Unit AdfError) (said : Answer)
+    → OnOk result (said ≡ answer.Done) → IfErr result (λ error. said ≡ answer.Refused error) → PlainStep files before (Closed number result) now after
+    → (made : Call) × (call_made (asks.Close number) said ≡ Some made) × PlainStep files before made now after
+closed files after before now number (Ok done) said is _ step = (_, ap (call_made (asks.Close number)) is, step)
+closed files after before now number (Err error) said _ is step = (_, ap (call_made (asks.Close number)) is, step)
+
+-- a line that gives no call is said to be none, or lacks memory
+pub refused : (files : Files) (before : Devices) (line : List ℕ) (given : AdfError) → length line ≤ 2 ^ 20 → is_skipped line ≡ false
+    → IsRefusal given → (given ≡ error.Syntax → (call : script.Call) → ¬ IsLine line call)
+    → (made : Call) × Says line made (Some (refusal_text given)) × PlainStep files before made before files
+refused files before line given short kept why none =
+    elim why [
+      | inl is ↦ subst (λ (e : AdfError). (made : Call) × Says line made (Some (refusal_text e)) × PlainStep files before made before files) (sym is) (Misread error.Syntax, misreads short kept (none is), (tt, refl, refl))
+      | inr is ↦ subst (λ (e : AdfError). (made : Call) × Says line made (Some (refusal_text e)) × PlainStep files before made before files) (sym is) (Misread error.Memory, lacks_memory short kept, (tt, refl, refl))
+    ]
+
+-- a skipped line changes nothing
+pub skipped : (files : Files) (before : Devices) (line : List ℕ) → length line ≤ 2 ^ 20 → is_skipped line ≡ true
+    → (made : Call) × Says line made None × PlainStep files before made before files
+skipped files before line given skip = (Skipped, skips given skip, (refl, refl))
+
+-- a call that was made for a line
+pub answered : (files after : Files) (before now : Devices) (line : List ℕ) (call : script.Call) (said : Answer) → length line ≤ 2 ^ 20 → is_skipped line ≡ false → IsLine line call
+    → (made : Call) × (call_made call said ≡ Some made) × PlainStep files before made now after
+    → (made : Call) × Says line made (Some (reply_line said)) × PlainStep files before made now after
+answered files after before now line call said given kept is step = (step.0, makes given kept call said step.0 is step.1, step.2)
+
+-- a line that is too long changes nothing
+pub too_long_turn : (files : Files) (before : Devices) (line : List ℕ) → 2 ^ 20 < length line
+    → (made : Call) × Says line made (Some (refusal_text error.LineTooLong)) × PlainStep files before made before files
+too_long_turn files before line long = (Misread error.LineTooLong, too_long long, (tt, refl, refl))

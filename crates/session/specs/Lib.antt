@@ -1,0 +1,5 @@
+pub mod Calls
+pub mod Input
+pub mod Printed
+pub mod Turns
+pub mod Session

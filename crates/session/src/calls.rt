@@ -1,0 +1,74 @@
+//! The calls that the lines of a session make.
+
+ghost use Rattle.std.specs.Prelude.{◌≡◌, ◌≤◌, ◌^◌, false, IfOk, IfErr};
+ghost use Rattle.adf_model.specs.Slots.{Files, Devices, IsTold};
+ghost use Rattle.adf_model.specs.Steps.{AllLaidOut, NoCountFell, Fresh, Opened, Closed, Asked, Changed};
+ghost use Rattle.call_script.specs.Replies.{HasRule};
+ghost use Rattle.session.specs.Calls.{IsBuiltQuery, IsBuiltGroup, IsReplyTo, PlainStep, names_there};
+
+use adf_model::{AdfError, Edit, EditError, Query, Reply, Serials};
+
+/// Files under numbers, which the lines of a session open, ask, edit and close.
+///
+/// Where the devices tell their bytes, each call is a step of the abstract trees, and each tree that
+/// is open or was closed in this session is laid out by the bytes of its device. Whether they tell or
+/// not, each file that is there stays there under its number and its name. Where a refusal names a
+/// rule of the layout, the rule has one or two digits.
+pub trait FileCalls {
+    /// The files by their numbers, with the trees of those that are open.
+    ghost files: { Self → Files };
+
+    /// The device of each file.
+    ghost devices: { Self → Devices };
+
+    /// What stands between the calls: a call keeps it, and may be made where it holds.
+    ghost is_ready: { Self → Type 0 };
+
+    /// Opens a file that holds nothing as a fresh one, with an address limit in blocks.
+    fn open_new(&mut self, number: u32, limit: u64) -> Result<(), AdfError>
+        requires ready { is_ready self.old }
+        requires limit { (1 ≤ limit) × (limit ≤ 2 ^ 32) }
+        ensures ready { is_ready self.new }
+        ensures told { IsTold (files self.old) (devices self.old) → IsTold (files self.new) (devices self.new) }
+        ensures step { IsTold (files self.old) (devices self.old) → PlainStep (files self.old) (devices self.old) (Opened number (Fresh false) limit result) (devices self.new) (files self.new) }
+        ensures laid_out { IsTold (files self.old) (devices self.old) → AllLaidOut (files self.old) (devices self.old) → AllLaidOut (files self.new) (devices self.new) }
+        ensures counts { NoCountFell (devices self.old) (devices self.new) }
+        ensures names { names_there (files self.new) ≡ names_there (files self.old) }
+        ensures rule { IfErr result HasRule };
+
+    /// Closes a file, a broken one too. It takes no memory.
+    fn close(&mut self, number: u32) -> Result<(), AdfError>
+        requires { is_ready self.old }
+        ensures ready { is_ready self.new }
+        ensures told { IsTold (files self.old) (devices self.old) → IsTold (files self.new) (devices self.new) }
+        ensures step { IsTold (files self.old) (devices self.old) → PlainStep (files self.old) (devices self.old) (Closed number result) (devices self.new) (files self.new) }
+        ensures laid_out { IsTold (files self.old) (devices self.old) → AllLaidOut (files self.old) (devices self.old) → AllLaidOut (files self.new) (devices self.new) }
+        ensures counts { NoCountFell (devices self.old) (devices self.new) }
+        ensures names { names_there (files self.new) ≡ names_there (files self.old) }
+        ensures rule { IfErr result HasRule };
+
+    /// Answers a query. It changes no tree and writes nothing.
+    fn ask(&mut self, query: &Query) -> Result<Reply, AdfError>
+        requires ready { is_ready self.old }
+        requires built { IsBuiltQuery query.now }
+        ensures ready { is_ready self.new }
+        ensures told { IsTold (files self.old) (devices self.old) → IsTold (files self.new) (devices self.new) }
+        ensures step { IsTold (files self.old) (devices self.old) → PlainStep (files self.old) (devices self.old) (Asked query.now result) (devices self.new) (files self.new) }
+        ensures laid_out { IsTold (files self.old) (devices self.old) → AllLaidOut (files self.old) (devices self.old) → AllLaidOut (files self.new) (devices self.new) }
+        ensures counts { NoCountFell (devices self.old) (devices self.new) }
+        ensures names { names_there (files self.new) ≡ names_there (files self.old) }
+        ensures kind { IfOk result (IsReplyTo query.now) }
+        ensures rule { IfErr result HasRule };
+
+    /// Does all edits of a group, or none.
+    fn edit(&mut self, edits: &[Edit]) -> Result<Serials, EditError>
+        requires ready { is_ready self.old }
+        requires built { IsBuiltGroup edits.now }
+        ensures ready { is_ready self.new }
+        ensures told { IsTold (files self.old) (devices self.old) → IsTold (files self.new) (devices self.new) }
+        ensures step { IsTold (files self.old) (devices self.old) → PlainStep (files self.old) (devices self.old) (Changed edits.now result) (devices self.new) (files self.new) }
+        ensures laid_out { IsTold (files self.old) (devices self.old) → AllLaidOut (files self.old) (devices self.old) → AllLaidOut (files self.new) (devices self.new) }
+        ensures counts { NoCountFell (devices self.old) (devices self.new) }
+        ensures names { names_there (files self.new) ≡ names_there (files self.old) }
+        ensures rule { IfErr result (λ refusal. HasRule refusal.error) };
+}
