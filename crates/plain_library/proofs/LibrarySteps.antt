@@ -1,0 +1,103 @@
+-- A call on one slot of a library is a step of all its files.
+use Rattle.std.proofs.Common.{◌≡◌, ℕ, ◌<◌, ◌^◌, List, [], ◌∷◌, length, get_or, set, map, refl, sym, ◌∙◌, ap, subst, arith, false}
+use Rattle.std.proofs.lemmas.List.{length-set, length-map}
+use Rattle.std.specs.Prelude.{IsSome, OnErr, Result, Option, Some, None, option_map}
+use Rattle.std.specs.List.{All}
+use Rattle.adf_model.specs.declared.error.AdfError.{AdfError}
+use Rattle.adf_model.specs.declared.tree.Edit.{Edit}
+use Rattle.adf_model.specs.declared.tree.NodeId.{NodeId}
+use Rattle.adf_model.specs.declared.tree.Query.{Query}
+use Rattle.adf_model.specs.declared.tree.Reply.{Reply}
+use Rattle.adf_model.specs.Slots.{Files, Devices, device_at, slot_at, is_gone, no_device, IsTold}
+use Rattle.adf_model.specs.Steps.{Opened, Closed, Asked, Fresh, Step, NoneFell, NoCountFell, OnlyRead, AllLaidOut, IsEdit}
+use Rattle.cg_io.specs.Device.{DeviceState}
+use Rattle.session.specs.Calls.{names_there}
+use Rattle.plain_library.specs.declared.shelf.Slot.{Slot}
+use Rattle.plain_library.specs.Calls.{IsOpenedAt, IsClosedAt, IsAskedAt, IsCreatedAt, IsLaidOutAt, as_group}
+use Rattle.plain_library.specs.Library.{file_in, device_in, device_by, placement_in, IsReadySlot}
+use Rattle.plain_library.proofs.Among.{OneSet, told_among, laid_among, counts_among, names_among, slot_here, device_here, device_now, slot_changed, read_same}
+use Rattle.plain_library.proofs.Asks.{HasNoLinks, asking_among}
+use Rattle.plain_library.proofs.Creates.{creating_among}
+use Rattle.plain_library.proofs.NoLinks.{no_links}
+use Rattle.plain_library.proofs.SlotLaws.{All-set}
+use Rattle.plain_library.proofs.Steps.{opening_among, closing_among}
+
+-- a device that stays in its slot was not written
+pub stayed : {D : Type 0} (state : D → DeviceState) (old new : Slot D) → new.device ≡ old.device → OnlyRead (device_in state old) (device_in state new)
+stayed state old new is = by_device old.device new.device is
+  where
+    by_state : (o : Option DeviceState) → OnlyRead (device_by (placement_in old.work) o) (device_by (placement_in new.work) o)
+    by_state None = read_same no_device no_device refl
+    by_state (Some s) = record { held = refl; faults = omega arith; lost = refl; writes = refl }
+
+    by_device : (one other : Option _) → other ≡ one → OnlyRead (device_by (placement_in old.work) (option_map state one)) (device_by (placement_in new.work) (option_map state other))
+    by_device one other is = subst (λ (o : Option _). OnlyRead (device_by (placement_in old.work) (option_map state one)) (device_by (placement_in new.work) (option_map state o))) (sym is) (by_state (option_map state one))
+
+module _ {D : Type 0} (state : D → DeviceState) (slots : List (Slot D)) (n : ℕ) (old new : Slot D) (within : n < length slots) (is : old ≡ get_or slots n old)
+    (name : (file_in new).name ≡ (file_in old).name) (gone : is_gone (file_in new).slot ≡ is_gone (file_in old).slot) where
+  abbrev files : Files
+  files = map file_in slots
+
+  abbrev before : Devices
+  before = map (device_in state) slots
+
+  abbrev now : Devices
+  now = map (device_in state) (set slots n new)
+
+  abbrev after : Files
+  after = map file_in (set slots n new)
+
+  one : OneSet n files before (file_in new).slot now after
+  one = slot_changed state slots n old new within is name
+
+  inside : n < length files
+  inside = let l = length-map slots file_in in omega (arith, l, within)
+
+  own : slot_at files n ≡ (file_in old).slot
+  own = slot_here state slots n old new within is
+
+  device : device_at before n ≡ device_in state old
+  device = device_here state slots n old new within is
+
+  device_left : device_at now n ≡ device_in state new
+  device_left = device_now state slots n old new within is
+
+  pub told_in : (IsSome (device_in state old).held → IsSome (device_in state new).held) → IsTold files before → IsTold after now
+  told_in keeps = told_among n files before (file_in new).slot now after one inside (gone ∙ ap is_gone (sym own)) (rw (device, device_left) keeps)
+
+  pub laid_in : (IsLaidOutAt (file_in old).slot (device_in state old) → IsLaidOutAt (file_in new).slot (device_in state new)) → AllLaidOut files before → AllLaidOut after now
+  laid_in keeps = laid_among n files before (file_in new).slot now after one inside (rw (own, device, device_left) keeps)
+
+  fell_in : NoneFell (device_in state old) (device_in state new) → NoneFell (device_at before n) (device_at now n)
+  fell_in fell = rw (device, device_left) fell
+
+  pub counts_in : NoneFell (device_in state old) (device_in state new) → NoCountFell before now
+  counts_in fell = counts_among n files before (file_in new).slot now after one (fell_in fell)
+
+  pub names_in : names_there after ≡ names_there files
+  names_in = names_among state slots n old new within is name gone
+
+  pub ready_in : IsReadySlot state new → All (IsReadySlot state) slots × (length slots < 2 ^ 32) → All (IsReadySlot state) (set slots n new) × (length (set slots n new) < 2 ^ 32)
+  ready_in ready all = (All-set (IsReadySlot state) slots n new all.0 ready, let l = length-set slots n new in omega (arith, l, all.1))
+
+  pub opening_in : (limit : ℕ) (result : Result Unit AdfError) → IsOpenedAt (file_in old).slot (device_in state old) limit result (device_in state new) (file_in new).slot
+      → OnErr result ((device_in state new).placement ≡ (device_in state old).placement) → NoneFell (device_in state old) (device_in state new) → Step files before (Opened n (Fresh false) limit result) now after
+  opening_in limit result opened placed fell =
+      opening_among files before now n limit (file_in new).slot result after one (rw (own, device, device_left) opened) (rw (device, device_left) placed) (fell_in fell)
+
+  pub closing_in : (result : Result Unit AdfError) → IsClosedAt (file_in old).slot result (file_in new).slot → OnErr result ((device_in state new).placement ≡ (device_in state old).placement)
+      → new.device ≡ old.device → Step files before (Closed n result) now after
+  closing_in result closed placed same =
+      closing_among files before now n (file_in new).slot result after one (rw own closed) (rw (device, device_left) placed) (rw (device, device_left) (stayed state old new same))
+
+  plain : HasNoLinks (slot_at files n)
+  plain = rw own (no_links old)
+
+  pub asking_in : (serial : ℕ) (result : Result Reply AdfError) → IsAskedAt (file_in old).slot (record { file = n; serial = serial }) result → Step files before (Asked (Query.ChildrenOf (record { file = n; serial = serial })) result) before files
+  asking_in serial result asked = asking_among files before (record { file = n; serial = serial }) result plain (rw own asked)
+
+  pub creating_in : (serial : ℕ) (name label : List ℕ) (result : Result (List NodeId) AdfError) → IsTold files before
+      → IsCreatedAt (file_in old).slot (device_in state old) (record { file = n; serial = serial }) name label result (device_in state new) (file_in new).slot → NoneFell (device_in state old) (device_in state new)
+      → IsEdit files before (Edit.Create (record { file = n; serial = serial }) name label ∷ []) (as_group result) now after
+  creating_in serial name label result told created fell =
+      creating_among files before (record { file = n; serial = serial }) name label now (file_in new).slot after one (fell_in fell) plain result told (rw (own, device, device_left) created)

@@ -1,0 +1,11 @@
+use Rattle.std.proofs.Common.{◌∙◌, ap, map, List}
+use Rattle.plain_library.specs.Shelf.{SlotState}
+use Rattle.plain_library.specs.Library.{shelf_device, shelf_files}
+use Rattle.plain_library.proofs.ShelfLaws.{idle_files, idle_devices}
+use Rattle.plain_library.proofs.library.Library.new.Goals as goal
+
+pub returns-clause-files : goal.returns-clause-files
+returns-clause-files g c = idle_files g.D.Device.state c.close_all.new.slots.items c.close_all.ensures.idle ∙ ap shelf_files c.close_all.ensures.slots
+
+pub returns-clause-devices : goal.returns-clause-devices
+returns-clause-devices g c = idle_devices g.D.Device.state c.close_all.new.slots.items c.close_all.ensures.idle ∙ ap (λ (l : List SlotState). map shelf_device l) c.close_all.ensures.slots
