@@ -1,4 +1,2 @@
-pub mod Fresh
 pub mod Printed
-pub mod Shelf
 pub mod Tool

@@ -1,17 +1,14 @@
 -- What was printed, and how a run ends then.
-use Rattle.std.specs.Prelude.{◌≡◌, ◌⊎◌, ℕ, ◌≤◌, List, [], ◌∷◌, ◌++◌, length, take, Option}
+use Rattle.std.specs.Prelude.{◌≡◌, ◌⊎◌, ℕ, List, [], ◌∷◌, ◌++◌, Option}
 use Rattle.std.specs.Io.KnownBytes.{Appends}
 use Rattle.cg_io.specs.Cause.{Rose}
+use Rattle.session.specs.Printed.{AppendsPart}
 use Rattle.cgns_tool.specs.declared.status.Status.{Status}
 use Rattle.cgns_tool.specs.declared.status.Status.TheVariants as status
 
 -- a text and a line feed
 abbrev pub line : List ℕ → List ℕ
 line text = text ++ 10 ∷ []
-
--- some first bytes of a text were taken
-abbrev pub AppendsPart : Option (List ℕ) → Option (List ℕ) → List ℕ → Type 0
-AppendsPart taken now text = (n : ℕ) × (n ≤ length text) × Appends taken now (take n text)
 
 -- the whole text was taken, and the run ends with this status; or the sink failed, and took some first bytes of it
 abbrev pub EndsWith : Status → List ℕ → Status → Option (List ℕ) → Option (List ℕ) → ℕ → ℕ → Type 0

@@ -1,18 +1,31 @@
 -- What the commands print, how they end, and what they leave.
-use Rattle.std.specs.Prelude.{◌≡◌, ℕ, Bool, List, [], ◌∷◌, codes, Some, None, Option, take, if◌then◌else◌, ◌&&◌, not, Result, Ok, Err}
+use Rattle.std.specs.Prelude.{◌≡◌, ℕ, ◌<◌, ◌≤◌, ⊤, Bool, false, List, [], ◌∷◌, length, map, codes, Some, None, Option, is_some, take, if◌then◌else◌, ◌&&◌, not, Result, Ok, Err}
+use Rattle.std.specs.List.{list_all}
 use Rattle.std.specs.Option.{option_and_then}
 use Rattle.std.specs.Str.{bytes_eq}
+use Rattle.std.specs.Io.KnownBytes.{Consumes, IsAtEnd}
 use Rattle.adf_model.specs.declared.error.AdfError.{AdfError}
 use Rattle.adf_model.specs.declared.error.AdfError.TheVariants as error
+use Rattle.adf_model.specs.Slots.{Files, Devices, IsTold}
+use Rattle.adf_model.specs.Steps.{AllLaidOut, NoCountFell}
+use Rattle.cg_io.specs.Cause.{Rose}
 use Rattle.cg_io.specs.Device.{DeviceState}
-use Rattle.cgns_tool.specs.Fresh.{MakesFresh}
+use Rattle.plain_library.specs.Fresh.{MakesFresh}
+use Rattle.plain_library.specs.Library.{shelf_files, shelf_devices, standing_name, unplaced}
+use Rattle.plain_library.specs.Shelf.{SlotState, number_in, device_at, with_device}
+use Rattle.session.specs.Session.{Scene, HasRun, IsBounded}
+use Rattle.session.specs.declared.session.Ended.{Ended}
+use Rattle.session.specs.declared.session.Ended.TheVariants as ended
 use Rattle.cgns_tool.specs.Printed.{line, EndsWith}
-use Rattle.cgns_tool.specs.Shelf.{SlotState, number_in, device_at, with_device}
 use Rattle.cgns_tool.specs.declared.status.Status.{Status}
 use Rattle.cgns_tool.specs.declared.status.Status.TheVariants as status
+use Rattle.cgns_tool.specs.declared.words.Wanted.{Wanted}
+use Rattle.cgns_tool.specs.declared.words.Wanted.TheVariants as asks
 
 abbrev pub usage : List ℕ
 usage = line (codes "usage: cgns_tool COMMAND WORD..")
+
+-- ---- words
 
 -- a word that may name a file: it is not empty, and does not begin with a dash
 abbrev pub is_file_word : List ℕ → Bool
@@ -23,9 +36,33 @@ abbrev pub init_file : List (List ℕ) → Option (List ℕ)
 init_file (command ∷ file ∷ []) = if bytes_eq command (codes "init") && is_file_word file then Some file else None
 init_file words = None
 
--- the number of the file that the words name, where they are right: a command, a word, and a name on the shelf
-abbrev pub wanted : List (List ℕ) → List SlotState → Option ℕ
-wanted words slots = option_and_then (number_in slots) (init_file words)
+-- the number of that file, where it is on the shelf
+abbrev pub init_number : List (List ℕ) → List SlotState → Option ℕ
+init_number words slots = option_and_then (number_in slots) (init_file words)
+
+-- a word that may name a file, and under which a device stands on the shelf
+abbrev pub names_device : List SlotState → List ℕ → Bool
+names_device slots word = is_file_word word && is_some (number_in slots word)
+
+-- `session FILE..`, with one file or more, each of them on the shelf
+abbrev pub is_session : List (List ℕ) → List SlotState → Bool
+is_session (command ∷ file ∷ files) slots = bytes_eq command (codes "session") && list_all (names_device slots) (file ∷ files)
+is_session words slots = false
+
+abbrev pub init_wanted : Option ℕ → Wanted
+init_wanted None = asks.Nothing
+init_wanted (Some number) = asks.Init number
+
+-- what the words ask for
+abbrev pub wanted : List (List ℕ) → List SlotState → Wanted
+wanted words slots = if is_session words slots then asks.Session else init_wanted (init_number words slots)
+
+-- a number that is asked for is one of the shelf
+abbrev pub IsOnShelf : Wanted → List SlotState → Type 0
+IsOnShelf (asks.Init number) slots = number < length slots
+IsOnShelf other slots = ⊤
+
+-- ---- init
 
 -- the line that `init` prints
 abbrev pub init_line : Result Unit AdfError → List ℕ
@@ -45,8 +82,55 @@ abbrev pub InitEnds : Status → DeviceState → DeviceState → Option (List �
 InitEnds result old new taken now faults later =
     (made : Result Unit AdfError) × MakesFresh made old new × EndsWith (init_status made) (init_line made) result taken now faults later
 
--- how a run ends, and what it leaves on the shelf: without right words the usage line; else the command on the file of that number alone
-abbrev pub RunEnds : Option ℕ → Status → List SlotState → List SlotState → Option (List ℕ) → Option (List ℕ) → ℕ → ℕ → Type 0
-RunEnds None result old new taken now faults later = (new ≡ old) × EndsWith status.Usage usage result taken now faults later
-RunEnds (Some n) result old new taken now faults later =
-    (before : DeviceState) × (after : DeviceState) × (device_at old n ≡ Some before) × (new ≡ with_device old n (Some after)) × InitEnds result before after taken now faults later
+-- ---- sessions
+
+-- the input and the output of a run: what is left of the one and what the other took, where they tell it, and how often each failed
+pub record Streams : Type 0 where
+  pub left : Option (List ℕ)
+  pub source_faults : ℕ
+  pub taken : Option (List ℕ)
+  pub sink_faults : ℕ
+
+-- the input was not read
+pub record InputStays (before now : Streams) : Type 0 where
+  pub left : now.left ≡ before.left
+  pub faults : now.source_faults ≡ before.source_faults
+
+-- files and streams, as a session sees them
+abbrev pub scene : Files → Devices → Streams → Scene
+scene files devices streams = record { files = files; devices = devices; text = streams.left; taken = streams.taken }
+
+abbrev pub session_status : Ended → Status
+session_status ended.Done = status.Done
+session_status ended.SourceFault = status.SourceFault
+session_status ended.SinkFault = status.SinkFault
+session_status ended.Memory = status.Memory
+session_status ended.TooLong = status.TooLong
+
+-- A session over the files of a shelf, which are closed at first and hold any bytes.
+-- Where the devices tell their bytes, it is a run of the abstract trees over the lines of the input, and
+-- what is printed are the replies of that run; and each file that is open at the end, or was closed, is a
+-- layout of its tree. All files are closed then, and the shelf has the devices as the run left them.
+pub record SessionEnds (how : Ended) (old new : List SlotState) (before now : Streams) : Type 0 where
+  pub files : Files
+  pub devices : Devices
+  pub run : IsTold (shelf_files old) (shelf_devices old) → HasRun how (scene (shelf_files old) (shelf_devices old) before) (scene files devices now)
+  pub laid_out : IsTold (shelf_files old) (shelf_devices old) → AllLaidOut files devices
+  pub left : shelf_devices new ≡ map unplaced devices
+  pub names : map standing_name new ≡ map standing_name old
+  pub counts : NoCountFell (shelf_devices old) (shelf_devices new)
+  pub bound : (bytes : List ℕ) × Consumes before.left now.left bytes × IsBounded how (length bytes)
+  pub end : how ≡ ended.Done → IsAtEnd now.left
+  pub source : how ≡ ended.SourceFault → Rose before.source_faults now.source_faults
+  pub sink : how ≡ ended.SinkFault → Rose before.sink_faults now.sink_faults
+  pub source_later : before.source_faults ≤ now.source_faults
+  pub sink_later : before.sink_faults ≤ now.sink_faults
+
+-- ---- all commands
+
+-- how a run ends, and what it leaves on the shelf: without right words the usage line; else the fresh file on the device of that number alone, or a session over all
+abbrev pub RunEnds : Wanted → Status → List SlotState → List SlotState → Streams → Streams → Type 0
+RunEnds asks.Nothing result old new before now = (new ≡ old) × EndsWith status.Usage usage result before.taken now.taken before.sink_faults now.sink_faults × InputStays before now
+RunEnds (asks.Init n) result old new before now =
+    ((device : DeviceState) × (after : DeviceState) × (device_at old n ≡ Some device) × (new ≡ with_device old n (Some after)) × InitEnds result device after before.taken now.taken before.sink_faults now.sink_faults) × InputStays before now
+RunEnds asks.Session result old new before now = (how : Ended) × (result ≡ session_status how) × SessionEnds how old new before now

@@ -2,20 +2,20 @@
 
 #![tactic(auto)]
 
-ghost use Rattle.cgns_tool.specs.Shelf.{IsShelf, IsWhole};
+ghost use Rattle.plain_library.specs.Shelf.{IsShelf, IsWhole};
 
-mod fresh;
-mod print;
-mod shelf;
+#[cfg(test)]
+mod session_tests;
 mod status;
 #[cfg(test)]
 mod tests;
 mod tool;
+mod words;
 
 use adf_model::{AdfError, Text};
 use cg_host::{HostDevice, HostSink, HostSource};
 use cg_io::Device;
-use shelf::Shelf;
+use plain_library::Shelf;
 use status::Status;
 use std::alloc::AllocError;
 use std::env;

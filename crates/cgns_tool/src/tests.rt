@@ -2,30 +2,30 @@
 
 ghost use Rattle.std.specs.Prelude.{◌≡◌, ◌≤◌, length, IfOk};
 
-use crate::shelf::Shelf;
 use crate::status::Status;
 use crate::tool::{run_on, run_tool};
 use adf_model::{AdfError, Text};
 use cg_io::{Device, MemoryDevice, MemorySink, MemorySource};
+use plain_library::Shelf;
 use std::alloc::Global;
 use std::test::Fail;
 
 const USAGE: &str = "usage: cgns_tool COMMAND WORD..\n";
 
-fn text_of(alloc: Global, bytes: &[u8]) -> Result<Text, Fail>
+pub fn text_of(alloc: Global, bytes: &[u8]) -> Result<Text, Fail>
     ensures { IfOk result (λ t. t ≡ bytes.now) }
 {
     Ok(Text::new(bytes.to_vec(alloc)?))
 }
 
-fn device_of(alloc: Global, bytes: &[u8]) -> Result<MemoryDevice, Fail>
+pub fn device_of(alloc: Global, bytes: &[u8]) -> Result<MemoryDevice, Fail>
     requires { length bytes.now ≤ 4096 }
     ensures { IfOk result (λ d. d.bytes ≡ bytes.now) }
 {
     Ok(MemoryDevice::new(alloc, text_of(alloc, bytes)?))
 }
 
-fn words_of(alloc: Global, line: &str) -> Result<Vec<String>, Fail> {
+pub fn words_of(alloc: Global, line: &str) -> Result<Vec<String>, Fail> {
     let mut words = Vec::new(alloc);
     for word in line.split(" ") {
         words.push(String::from_str(alloc, word)?)?;
@@ -52,8 +52,9 @@ fn run_init(
     if let Err((error, _)) = shelf.add(text_of(alloc, b"a.adf")?, device) {
         return Err(Fail::from(error));
     }
+    let mut input = MemorySource::new(text_of(alloc, b"open 0 new 1")?);
     let mut output = output;
-    let status = run_on(&words, &mut shelf, &mut output);
+    let status = run_on(alloc, &words, &mut shelf, &mut input, &mut output);
     let printed = output.taken().to_vec(alloc)?;
     match shelf.take(0) {
         Some(device) => Ok(Ran {
@@ -121,6 +122,12 @@ fn wrong_words_print_the_usage_line_and_touch_nothing(rt: HostRuntime) -> Result
         "Init a.adf",
         "lint a.adf",
         "init a.adf a.adf",
+        "session",
+        "session ",
+        "session -a",
+        "session b.adf",
+        "session a.adf b.adf",
+        "sessions a.adf",
         "--help",
     ] {
         let ran = run_init(alloc, line, device_of(alloc, b"")?, MemorySink::new(alloc))?;
@@ -195,42 +202,5 @@ fn the_tool_runs_on_boxed_devices_and_leaves_the_others(rt: HostRuntime) -> Resu
     let mut second = second;
     assert_eq!(rt; first.length(), Ok(3));
     assert_eq!(rt; second.length(), Ok(4096));
-    Ok(())
-}
-
-#[test]
-fn a_shelf_hands_out_each_name_and_each_device_once(rt: HostRuntime) -> Result<(), Fail> {
-    let alloc = rt.alloc();
-    let mut shelf = Shelf::new(alloc);
-    assert!(rt;
-        matches!(
-            &shelf.add(text_of(alloc, b"a")?, device_of(alloc, b"1")?),
-            Ok(0)
-        )
-    );
-    assert!(rt;
-        matches!(
-            &shelf.add(text_of(alloc, b"b")?, device_of(alloc, b"22")?),
-            Ok(1)
-        )
-    );
-    match shelf.add(text_of(alloc, b"a")?, device_of(alloc, b"333")?) {
-        Err((error, device)) => {
-            assert_eq!(rt; error, AdfError::AlreadyOpen);
-            assert_eq!(rt; device.held(), b"333".as_slice());
-        }
-        Ok(_) => panic!(rt; "added twice"),
-    }
-    assert_eq!(rt; shelf.len(), 2);
-    assert_eq!(rt; shelf.number_of(b"b"), Some(1));
-    assert_eq!(rt; shelf.number_of(b"c"), None);
-    assert!(rt; shelf.take(2).is_none());
-    let Some(device) = shelf.take(1) else {
-        return Err(Fail::from(AdfError::NoSuchFile));
-    };
-    assert!(rt; shelf.take(1).is_none());
-    assert_eq!(rt; shelf.number_of(b"b"), Some(1));
-    shelf.put_back(1, device);
-    assert!(rt; shelf.take(1).is_some());
     Ok(())
 }

@@ -1,17 +1,19 @@
 //! The commands.
 
-ghost use Rattle.std.specs.Prelude.{◌≡◌, map, string_bytes, MatchOption, Some, None};
+ghost use Rattle.std.specs.Prelude.{◌≡◌, ◌<◌, length, map, string_bytes, Some};
 ghost use Rattle.cgns_tool.specs.Printed.{EndsWith};
-ghost use Rattle.cgns_tool.specs.Shelf.{slots_of, IsShelf, IsWhole};
-ghost use Rattle.cgns_tool.specs.Tool.{InitEnds, RunEnds, init_file, init_line, init_status, usage, wanted};
+ghost use Rattle.cgns_tool.specs.Tool.{InitEnds, RunEnds, SessionEnds, init_line, init_status, session_status, usage, wanted};
+ghost use Rattle.plain_library.specs.Shelf.{slots_of, device_at, with_device, IsShelf, IsWhole};
+ghost use Rattle.cg_io.specs.Device.{DeviceState};
 
-use crate::fresh::make_fresh;
-use crate::print::print;
-use crate::shelf::Shelf;
 use crate::status::Status;
+use crate::words::{Wanted, read_words};
 use adf_model::AdfError;
 use cg_io::{Device, Sink, Source};
+use plain_library::{Library, Shelf, make_fresh};
+use session::{Ended, print, run_session};
 use std::alloc::Global;
+use std::mem::replace;
 
 // Ends with a line and a status, or with the fault of the sink.
 fn ended<O: Sink>(output: &mut O, line: &[u8], status: Status) -> Status
@@ -54,43 +56,16 @@ fn init<D: Device, O: Sink>(device: &mut D, output: &mut O) -> Status
     ended(output, init_text(&made), init_status_of(&made))
 }
 
-// The file of `init FILE`, where the words are that.
-fn file_of(words: &[String]) -> Option<&str>
-    ensures { MatchOption result (init_file (map string_bytes words.now) ≡ None) (λ file. init_file (map string_bytes words.now) ≡ Some file.now) }
-{
-    match words {
-        [command, file] => {
-            if command.as_str() == "init" && !file.is_empty() && !file.starts_with("-") {
-                Some(file.as_str())
-            } else {
-                None
-            }
-        }
-        _ => None,
-    }
-}
-
-fn say_usage<O: Sink>(output: &mut O) -> Status
-    ensures { EndsWith Status.Usage usage result (O.taken output.old) (O.taken output.new) (O.faults output.old) (O.faults output.new) }
-{
-    ended(output, b"usage: cgns_tool COMMAND WORD..\n", Status::Usage)
-}
-
-// Runs the command of these words on the devices of a shelf.
-#[tactic(auto, using(crate::proofs::Slots::taken_and_put_back))]
-pub fn run_on<D: Device, O: Sink>(words: &[String], shelf: &mut Shelf<D>, output: &mut O) -> Status
+// The same on the device of a number.
+#[tactic(auto, using(plain_library::proofs::ShelfSlots::taken_and_put_back))]
+fn init_on<D: Device, O: Sink>(number: u32, shelf: &mut Shelf<D>, output: &mut O) -> Status
     requires whole { IsWhole shelf.old }
     requires shelf { IsShelf shelf.old }
-    ensures run { RunEnds (wanted (map string_bytes words.now) (slots_of D.state shelf.old)) result (slots_of D.state shelf.old) (slots_of D.state shelf.new)
-        (O.taken output.old) (O.taken output.new) (O.faults output.old) (O.faults output.new) }
+    requires there { number < length (slots_of D.state shelf.old) }
+    ensures init { (device : DeviceState) × (after : DeviceState) × (device_at (slots_of D.state shelf.old) number ≡ Some device) × (slots_of D.state shelf.new ≡ with_device (slots_of D.state shelf.old) number (Some after))
+        × InitEnds result device after (O.taken output.old) (O.taken output.new) (O.faults output.old) (O.faults output.new) }
     ensures shelf { IsShelf shelf.new }
 {
-    let Some(file) = file_of(words) else {
-        return say_usage(output);
-    };
-    let Some(number) = shelf.number_of(file.as_bytes()) else {
-        return say_usage(output);
-    };
     let Some(taken) = shelf.take(number) else {
         unreachable!()
     };
@@ -100,20 +75,86 @@ pub fn run_on<D: Device, O: Sink>(words: &[String], shelf: &mut Shelf<D>, output
     status
 }
 
+// The status with which a session ends.
+fn session_status_of(how: Ended) -> Status
+    ensures { result ≡ session_status how }
+{
+    match how {
+        Ended::Done => Status::Done,
+        Ended::SourceFault => Status::SourceFault,
+        Ended::SinkFault => Status::SinkFault,
+        Ended::Memory => Status::Memory,
+        Ended::TooLong => Status::TooLong,
+    }
+}
+
+// A session over the files of a shelf. Meanwhile an empty shelf stands in its place.
+fn session_on<D: Device, I: Source, O: Sink>(
+    alloc: Global,
+    shelf: &mut Shelf<D>,
+    input: &mut I,
+    output: &mut O,
+) -> Ended
+    requires { IsShelf shelf.old }
+    ensures session { SessionEnds result (slots_of D.state shelf.old) (slots_of D.state shelf.new)
+        (record { left = I.left input.old; source_faults = I.faults input.old; taken = O.taken output.old; sink_faults = O.faults output.old })
+        (record { left = I.left input.new; source_faults = I.faults input.new; taken = O.taken output.new; sink_faults = O.faults output.new }) }
+    ensures shelf { IsShelf shelf.new }
+{
+    let taken = replace(shelf, Shelf::new(alloc));
+    let Ok(made) = Library::new(alloc, taken) else {
+        unreachable!()
+    };
+    let mut library = made;
+    let how = run_session(alloc, &mut library, input, output);
+    *shelf = library.finish();
+    how
+}
+
+fn say_usage<O: Sink>(output: &mut O) -> Status
+    ensures { EndsWith Status.Usage usage result (O.taken output.old) (O.taken output.new) (O.faults output.old) (O.faults output.new) }
+{
+    ended(output, b"usage: cgns_tool COMMAND WORD..\n", Status::Usage)
+}
+
+// Runs the command of these words on the devices of a shelf.
+pub fn run_on<D: Device, I: Source, O: Sink>(
+    alloc: Global,
+    words: &[String],
+    shelf: &mut Shelf<D>,
+    input: &mut I,
+    output: &mut O,
+) -> Status
+    requires whole { IsWhole shelf.old }
+    requires shelf { IsShelf shelf.old }
+    ensures run { RunEnds (wanted (map string_bytes words.now) (slots_of D.state shelf.old)) result (slots_of D.state shelf.old) (slots_of D.state shelf.new)
+        (record { left = I.left input.old; source_faults = I.faults input.old; taken = O.taken output.old; sink_faults = O.faults output.old })
+        (record { left = I.left input.new; source_faults = I.faults input.new; taken = O.taken output.new; sink_faults = O.faults output.new }) }
+    ensures shelf { IsShelf shelf.new }
+{
+    match read_words(words, shelf) {
+        Wanted::Nothing => say_usage(output),
+        Wanted::Init(number) => init_on(number, shelf, output),
+        Wanted::Session => session_status_of(session_on(alloc, shelf, input, output)),
+    }
+}
+
 /// Runs the command of these words on the devices of a shelf, and answers how it ended. `words` are
-/// the command line without the program's name; `input` is not read yet.
+/// the command line without the program's name. While a session runs, an empty shelf stands in the
+/// place of this one.
 pub fn run_tool<I: Source, O: Sink>(
-    _alloc: Global,
+    alloc: Global,
     words: &[String],
     shelf: &mut Shelf<Box<dyn Device>>,
-    _input: &mut I,
+    input: &mut I,
     output: &mut O,
 ) -> Status
     requires whole { IsWhole shelf.old }
     requires shelf { IsShelf shelf.old }
     ensures run { RunEnds (wanted (map string_bytes words.now) (slots_of state shelf.old)) result (slots_of state shelf.old) (slots_of state shelf.new)
-        (O.taken output.old) (O.taken output.new) (O.faults output.old) (O.faults output.new) }
+        (record { left = I.left input.old; source_faults = I.faults input.old; taken = O.taken output.old; sink_faults = O.faults output.old })
+        (record { left = I.left input.new; source_faults = I.faults input.new; taken = O.taken output.new; sink_faults = O.faults output.new }) }
     ensures shelf { IsShelf shelf.new }
 {
-    run_on(words, shelf, output)
+    run_on(alloc, words, shelf, input, output)
 }

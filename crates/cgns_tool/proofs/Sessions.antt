@@ -1,0 +1,60 @@
+-- What a session leaves of a shelf.
+use Rattle.std.proofs.Common.{◌≡◌, ℕ, ◌≤◌, zero, suc, List, [], ◌∷◌, length, map, refl, sym, ◌∙◌, ap, subst}
+use Rattle.std.specs.Prelude.{Option, Some, None}
+use Rattle.std.specs.Io.KnownBytes.{Consumes, IsAtEnd}
+use Rattle.adf_model.specs.Slots.{Files, Device, Devices, device_at, IsTold, entry_files}
+use Rattle.adf_model.specs.Steps.{NoneFell, NoCountFell, AllLaidOut}
+use Rattle.adf_model.proofs.LayoutLemmas.{laid_out_at_entry}
+use Rattle.cg_io.specs.Cause.{Rose}
+use Rattle.plain_library.specs.Library.{shelf_files, shelf_devices, standing_name, unplaced}
+use Rattle.plain_library.specs.Shelf.{SlotState}
+use Rattle.session.specs.Calls.{names_there}
+use Rattle.session.specs.Session.{HasRun, IsBounded}
+use Rattle.session.specs.declared.session.Ended.{Ended}
+use Rattle.session.specs.declared.session.Ended.TheVariants as ended
+use Rattle.cgns_tool.specs.Tool.{Streams, SessionEnds, scene}
+
+unplaced_at : (devices : Devices) (k : ℕ) → device_at (map unplaced devices) k ≡ unplaced (device_at devices k)
+unplaced_at [] k = refl
+unplaced_at (device ∷ devices) zero = refl
+unplaced_at (device ∷ devices) (suc k) = unplaced_at devices k
+
+fell_unplaced : (a b : Device) → NoneFell a b → NoneFell a (unplaced b)
+fell_unplaced a b fell = record { faults = fell.faults; lost = fell.lost; writes = fell.writes }
+
+counts_left : (before now new : Devices) → new ≡ map unplaced now → NoCountFell before now → NoCountFell before new
+counts_left before now new left counts k =
+    subst (λ (ds : Devices). NoneFell (device_at before k) (device_at ds k)) (sym left) (subst (NoneFell (device_at before k)) (sym (unplaced_at now k)) (fell_unplaced (device_at before k) (device_at now k) (counts k)))
+
+entry_names : (names : List (Option (List ℕ))) → names_there (entry_files names) ≡ names
+entry_names [] = refl
+entry_names (None ∷ names) = ap (λ (l : List (Option (List ℕ))). None ∷ l) (entry_names names)
+entry_names (Some name ∷ names) = ap (λ (l : List (Option (List ℕ))). Some name ∷ l) (entry_names names)
+
+-- what was told of the run, once all files are closed
+pub ended_so : (how : Ended) (old new : List SlotState) (files left : Files) (devices now_devices : Devices) (before now : Streams)
+    → files ≡ shelf_files old → devices ≡ shelf_devices old
+    → (IsTold files devices → HasRun how (scene files devices before) (scene left now_devices now))
+    → (IsTold files devices → AllLaidOut files devices → AllLaidOut left now_devices)
+    → NoCountFell devices now_devices → names_there left ≡ names_there files
+    → shelf_devices new ≡ map unplaced now_devices → map standing_name new ≡ names_there left
+    → ((bytes : List ℕ) × Consumes before.left now.left bytes × IsBounded how (length bytes))
+    → (how ≡ ended.Done → IsAtEnd now.left) → (how ≡ ended.SourceFault → Rose before.source_faults now.source_faults) → (how ≡ ended.SinkFault → Rose before.sink_faults now.sink_faults)
+    → before.source_faults ≤ now.source_faults → before.sink_faults ≤ now.sink_faults → SessionEnds how old new before now
+ended_so how old new files left devices now_devices before now files_are devices_are run laid counts names left_are names_are bound end source sink source_later sink_later = record {
+  files = left;
+  devices = now_devices;
+  run = subst (λ (fs : Files). IsTold fs (shelf_devices old) → HasRun how (scene fs (shelf_devices old) before) (scene left now_devices now)) files_are
+      (subst (λ (ds : Devices). IsTold files ds → HasRun how (scene files ds before) (scene left now_devices now)) devices_are run);
+  laid_out = λ told. subst (λ (fs : Files). IsTold fs (shelf_devices old) → AllLaidOut fs (shelf_devices old) → AllLaidOut left now_devices) files_are
+      (subst (λ (ds : Devices). IsTold files ds → AllLaidOut files ds → AllLaidOut left now_devices) devices_are laid) told (laid_out_at_entry (map standing_name old) (shelf_devices old));
+  left = left_are;
+  names = names_are ∙ names ∙ ap names_there files_are ∙ entry_names (map standing_name old);
+  counts = counts_left (shelf_devices old) now_devices (shelf_devices new) left_are (subst (λ (ds : Devices). NoCountFell ds now_devices) devices_are counts);
+  bound = bound;
+  end = end;
+  source = source;
+  sink = sink;
+  source_later = source_later;
+  sink_later = sink_later;
+}
