@@ -1,0 +1,16 @@
+pub mod CutLaws
+pub mod PutLaws
+pub mod Images
+pub mod Ranges
+pub mod Threads
+pub mod WalkLaws
+pub mod Effects
+pub mod TableLaws
+pub mod UnlinkLaws
+pub mod ChangeLaws
+pub mod PushLaws
+pub mod HeapFacts
+pub mod OrderLaws
+pub mod SpaceLaws
+pub mod CallLaws
+pub mod Apart

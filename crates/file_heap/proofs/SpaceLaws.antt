@@ -1,0 +1,283 @@
+-- Takes and gifts in a space: the lists, the fillers, the end pointer and what may change.
+use Rattle.std.proofs.Common.{◌≡◌, ◌⊎◌, inl, inr, ℕ, refl, sym, ◌∙◌, ap, subst, arith, List, [], ◌∷◌, length, filter, ◌+◌, ◌-◌, ◌<◌, ◌≤◌, ◌^◌, Bool, true, false, cond}
+use Rattle.std.proofs.lemmas.Bool.Decides.{nat_tests, leb_tells}
+use Rattle.std.proofs.lemmas.Option.{slice_get-get_or}
+use Rattle.std.specs.Prelude.{Option, Some, None, IfSome, slice_get, remove, ◌&&◌, nat_lt, nat_le}
+use Rattle.cg_io.specs.Blocks.{Both}
+use Rattle.adf_format.specs.declared.types.Extent.{Extent}
+use Rattle.adf_format.specs.declared.types.ExtentKind.{ExtentKind}
+use Rattle.adf_format.specs.Fields.{field}
+use Rattle.adf_format.specs.Pointer.{To, pointer, pointer_text, PointsTo}
+use Rattle.adf_format.specs.Tiles.{cover, holds_byte, is_free, is_filler, MeetsNone}
+use Rattle.adf_format.specs.Placement.{extent}
+use Rattle.adf_format.specs.LaysOut.{ThreadsFreeChunks, HasSameRanges}
+use Rattle.adf_format.specs.Changes.{Writes}
+use Rattle.adf_format.specs.HeapRule.{new_gap, cut, give_alone}
+use Rattle.adf_format.proofs.HeapLaws.{in_range}
+use Rattle.adf_format.proofs.HexLaws.{pointer-pointer_text}
+use Rattle.adf_format.proofs.CountLaws.{none_holds}
+use Rattle.adf_format.proofs.FrameLaws.{field_kept}
+use Rattle.adf_format.proofs.SpelledParts.{length-pointer_text}
+use Rattle.file_heap.specs.Gaps.{IsFirstFit, gap_at}
+use Rattle.file_heap.specs.Heap.{ChangesOnly, KeepsFillers, KeepsThreads, MovesEnd, IsUntold}
+use Rattle.file_heap.specs.Links.{AreApart, AreGaps, ThreadsNone, WritesGap, range, free_table}
+use Rattle.file_heap.proofs.Ranges.{flat, cover_kinds, same_cover}
+use Rattle.file_heap.proofs.Threads.{table_within, threading_beside}
+use Rattle.file_heap.proofs.WalkLaws.{all_ends, lists_of, threading, same_ranges, lists_cover}
+use Rattle.file_heap.proofs.TableLaws.{of_threading}
+use Rattle.file_heap.proofs.UnlinkLaws.{count_removed}
+use Rattle.file_heap.proofs.ChangeLaws.{IsWithin, widened, changes_then}
+use Rattle.file_heap.proofs.HeapFacts.{gaps_apart, free_cut, filler_cut, filler_removed, rest_gap, free_put, filler_put}
+
+-- ---- the end pointer
+
+module _ (last : ℕ) (old new : List ℕ) (w : Writes 146 (pointer_text (To last)) old new) where
+  twelve : length (pointer_text (To last)) ≡ 12
+  twelve = length-pointer_text (To last)
+
+  end_threads : KeepsThreads old new
+  end_threads gaps apart t =
+      let none : MeetsNone 146 12 (flat (lists_of t)) = λ b low high. (let l = lists_cover old gaps t b in let z = apart.low b (omega (arith, high)) in omega (arith, l, z)) in
+      of_threading new gaps (lists_of t) refl
+      (threading_beside 146 (pointer_text (To last)) old new (all_ends t) (lists_of t) w (omega (arith, twelve)) (inl (omega (arith, twelve))) (subst (λ n. MeetsNone 146 n (flat (lists_of t))) (sym twelve) none) (threading old gaps t))
+      (same_ranges old gaps t)
+
+  end_named : last < 2 ^ 44 → PointsTo (field new 146 12) last
+  end_named near = ap pointer (ap (field new 146) (sym twelve) ∙ w.stands) ∙ pointer-pointer_text last near
+
+pub grown_threads : (last : ℕ) (old new : Option (List ℕ)) → Both (Writes 146 (pointer_text (To last))) old new → Both KeepsThreads old new
+grown_threads last None None w = tt
+grown_threads last None (Some new) w = w
+grown_threads last (Some old) None w = w
+grown_threads last (Some old) (Some new) w = end_threads last old new w
+
+pub grown_end : (end last : ℕ) (old new : Option (List ℕ)) → last < 2 ^ 44 → Both (Writes 146 (pointer_text (To last))) old new → Both (MovesEnd end last) old new
+grown_end end last None None near w = tt
+grown_end end last None (Some new) near w = w
+grown_end end last (Some old) None near w = w
+grown_end end last (Some old) (Some new) near w = λ was. end_named last old new w near
+
+pub kept_threads : (gaps : List Extent) (old new : Option (List ℕ)) → AreApart gaps → Both KeepsThreads old new → IfSome old (λ bytes. ThreadsFreeChunks bytes gaps) → IfSome new (λ bytes. ThreadsFreeChunks bytes gaps)
+kept_threads gaps None None apart k t = tt
+kept_threads gaps None (Some new) apart k t = absurd k
+kept_threads gaps (Some old) None apart k t = absurd k
+kept_threads gaps (Some old) (Some new) apart k t = k gaps apart t
+
+-- the end pointer stays where nothing else of the head changes
+same_byte : (xs : List Extent) (old new : List ℕ) (b : ℕ) → ChangesOnly xs old new → b < length old → cover xs b ≡ 0 → slice_get new b ≡ slice_get old b
+same_byte xs old new b c lt none =
+    let long = c.longer in slice_get-get_or new b 0 (omega (arith, long, lt)) ∙ ap (λ x. Some x) (c.others b none) ∙ sym (slice_get-get_or old b 0 lt)
+
+end_stays_told : (xs gaps : List Extent) (end : ℕ) (old new : List ℕ) → MeetsNone 146 12 xs → ThreadsFreeChunks old gaps → ChangesOnly xs old new → MovesEnd end end old new
+end_stays_told xs gaps end old new apart t c was =
+    let long = table_within old (all_ends t) t.table in
+    ap pointer (field_kept 12 146 old new (λ b low high. same_byte xs old new b c (omega (arith, long, high)) (apart b low high))) ∙ was
+
+pub end_stays : (xs gaps : List Extent) (end : ℕ) (old new : Option (List ℕ)) → MeetsNone 146 12 xs → IfSome old (λ bytes. ThreadsFreeChunks bytes gaps) → Both (ChangesOnly xs) old new → Both (MovesEnd end end) old new
+end_stays xs gaps end None None apart t c = tt
+end_stays xs gaps end None (Some new) apart t c = c
+end_stays xs gaps end (Some old) None apart t c = c
+end_stays xs gaps end (Some old) (Some new) apart t c = end_stays_told xs gaps end old new apart t c
+
+-- ---- the free chunks among gaps
+
+pub same_threads : (bytes : List ℕ) (xs ys : List Extent) → HasSameRanges (filter is_free xs) (filter is_free ys) → ThreadsFreeChunks bytes xs → ThreadsFreeChunks bytes ys
+same_threads bytes xs ys same t = record { small = t.small; medium = t.medium; large = t.large; table = t.table; each = t.each; all = λ place n. t.all place n ∙ same place n }
+
+free_of_gaps : (gaps : List Extent) (place n : ℕ) → MeetsNone place n gaps → MeetsNone place n (filter is_free gaps)
+free_of_gaps gaps place n none b low high = let k = cover_kinds b gaps in let z = none b low high in omega (arith, k, z)
+
+low_apart : (gaps : List Extent) → AreGaps gaps → MeetsNone 186 80 gaps
+low_apart gaps g b low high = (gaps_apart gaps g).low b (omega (arith, high))
+
+-- the free chunks but one
+cover_removed : (gaps : List Extent) (i b : ℕ) → i < length gaps → is_free (gap_at gaps i) ≡ true → cover (filter is_free gaps) b ≡ in_range (gap_at gaps i).place (gap_at gaps i).length b + cover (filter is_free (remove gaps i)) b
+cover_removed gaps i b lt free = same_cover (filter is_free gaps) (gap_at gaps i ∷ filter is_free (remove gaps i)) (λ place n. count_removed place n gaps i lt free) b
+
+inner_range : (p n l b : ℕ) → n ≤ l → p + n ≤ b → b < p + n + (l - n) → in_range p l b ≡ 1
+inner_range p n l b le low high = grind (arith, nat_tests)
+
+module _ (gaps : List Extent) (i n : ℕ) (g : AreGaps gaps) (fit : IsFirstFit n gaps i) where
+  chunk : Extent
+  chunk = gap_at gaps i
+
+  once_free : (b : ℕ) → cover (filter is_free gaps) b ≤ 1
+  once_free b = let k = cover_kinds b gaps in let o = (gaps_apart gaps g).once b in omega (arith, k, o)
+
+  rest_apart : MeetsNone ((gap_at gaps i).place + n) ((gap_at gaps i).length - n) (filter is_free (remove gaps i))
+  rest_apart b low high =
+      let h : in_range (gap_at gaps i).place (gap_at gaps i).length b ≡ 1 = inner_range (gap_at gaps i).place n (gap_at gaps i).length b fit.fits low high in
+      let s = cover_removed gaps i b fit.within fit.free in let o = once_free b in omega (arith, h, s, o)
+
+  low_removed : MeetsNone 186 80 (filter is_free (remove gaps i))
+  low_removed b low high =
+      let z = (gaps_apart gaps g).low b (omega (arith, high)) in let k = cover_kinds b gaps in let s = cover_removed gaps i b fit.within fit.free in omega (arith, z, k, s)
+
+  behind_table : 0 < (gap_at gaps i).length → 266 ≤ (gap_at gaps i).place
+  behind_table long = by_test (leb_tells 266 (gap_at gaps i).place)
+    where
+      by_test : ((nat_le 266 (gap_at gaps i).place ≡ true) × (266 ≤ (gap_at gaps i).place)) ⊎ ((nat_le 266 (gap_at gaps i).place ≡ false) × ((gap_at gaps i).place < 266)) → 266 ≤ (gap_at gaps i).place
+      by_test (inl h) = h.1
+      by_test (inr h) =
+          let z = (gaps_apart gaps g).low (gap_at gaps i).place h.1 in
+          let k = cover_kinds (gap_at gaps i).place gaps in
+          let s = cover_removed gaps i (gap_at gaps i).place fit.within fit.free in
+          let one : in_range (gap_at gaps i).place (gap_at gaps i).length (gap_at gaps i).place ≡ 1 = first (gap_at gaps i).place (gap_at gaps i).length long in
+          absurd (omega (arith, z, k, s, one))
+        where
+          first : (p l : ℕ) → 0 < l → in_range p l p ≡ 1
+          first p l pos = grind (arith, nat_tests)
+
+  rest_within : IsWithin (free_table ∷ range ((gap_at gaps i).place + n) ((gap_at gaps i).length - n) ∷ []) (free_table ∷ filter is_free gaps)
+  rest_within b none = rw (table, out)
+    where
+      table : holds_byte free_table b ≡ false
+      table = (none_holds free_table (filter is_free gaps) b none).0
+
+      off : in_range (gap_at gaps i).place (gap_at gaps i).length b ≡ 0
+      off = let z = (none_holds free_table (filter is_free gaps) b none).1 in let s = cover_removed gaps i b fit.within fit.free in omega (arith, z, s)
+
+      inner : (p m l b : ℕ) → m ≤ l → in_range p l b ≡ 0 → holds_byte (range (p + m) (l - m)) b ≡ false
+      inner p m l b le z = grind (arith, nat_tests)
+
+      out : holds_byte (range ((gap_at gaps i).place + n) ((gap_at gaps i).length - n)) b ≡ false
+      out = inner (gap_at gaps i).place n (gap_at gaps i).length b fit.fits off
+
+pub cut_changes : (gaps : List Extent) (i n : ℕ) (gap : Extent) (a b c : Option (List ℕ)) → gap ≡ gap_at gaps i → AreGaps gaps → IsFirstFit n gaps i → Both (ChangesOnly (free_table ∷ filter is_free gaps)) a b
+    → Both (ChangesOnly (free_table ∷ range (gap.place + n) (gap.length - n) ∷ [])) b c → Both (ChangesOnly (free_table ∷ filter is_free gaps)) a c
+cut_changes gaps i n gap a b c is g fit v w =
+    changes_then (free_table ∷ filter is_free gaps) a b c v
+    (widened (free_table ∷ range ((gap_at gaps i).place + n) ((gap_at gaps i).length - n) ∷ []) (free_table ∷ filter is_free gaps) b c (rest_within gaps i n g fit) (subst (λ (x : Extent). Both (ChangesOnly (free_table ∷ range (x.place + n) (x.length - n) ∷ [])) b c) is w))
+
+pub cut_threads : (gaps : List Extent) (i n : ℕ) (gap : Extent) (b c : Option (List ℕ)) → gap ≡ gap_at gaps i → AreGaps gaps → IsFirstFit n gaps i → 32 ≤ (gap_at gaps i).length → IfSome b (λ bytes. ThreadsFreeChunks bytes (remove gaps i))
+    → Both (WritesGap (gap.place + n) (gap.length - n)) b c → IfSome c (λ bytes. ThreadsFreeChunks bytes (cut n gaps))
+cut_threads gaps i n gap b c is g fit long t w = go b c t (subst (λ (x : Extent). Both (WritesGap (x.place + n) (x.length - n)) b c) is w)
+  where
+    go : (b c : Option (List ℕ)) → IfSome b (λ bytes. ThreadsFreeChunks bytes (remove gaps i)) → Both (WritesGap ((gap_at gaps i).place + n) ((gap_at gaps i).length - n)) b c → IfSome c (λ bytes. ThreadsFreeChunks bytes (cut n gaps))
+    go None None t w = tt
+    go None (Some c) t w = absurd w
+    go (Some b) None t w = absurd w
+    go (Some b) (Some c) t w =
+        let low : 266 ≤ (gap_at gaps i).place = behind_table gaps i n g fit (omega (arith, long)) in
+        same_threads c (rest_gap n (gap_at gaps i) ∷ remove gaps i) (cut n gaps) (free_cut n i gaps fit) (w.threads (remove gaps i) (rest_apart gaps i n g fit) (low_removed gaps i n g fit) (omega (arith, low)) t)
+
+pub cut_untold : (gaps : List Extent) (xs : List Extent) (a b : Option (List ℕ)) → Both (ChangesOnly xs) a b → IfSome b (λ bytes. ThreadsFreeChunks bytes gaps) → ThreadsNone b → IsUntold a
+cut_untold gaps xs None b c t none = tt
+cut_untold gaps xs (Some a) None c t none = c
+cut_untold gaps xs (Some a) (Some b) c t none = none gaps t
+
+-- ---- fillers
+
+filler_apart : (gaps : List Extent) (b : ℕ) → AreGaps gaps → 0 < cover (filter is_filler gaps) b → cover (free_table ∷ filter is_free gaps) b ≡ 0
+filler_apart gaps b g some = rw table free
+  where
+    all : 0 < cover gaps b
+    all = let k = cover_kinds b gaps in omega (arith, k, some)
+
+    high : 266 ≤ b
+    high = elim (leb_tells 266 b) [ inl h ↦ h.1 | inr h ↦ (let z = (gaps_apart gaps g).low b h.1 in absurd (omega (arith, z, all))) ]
+
+    table : holds_byte free_table b ≡ false
+    table = off b high
+      where
+        off : (b : ℕ) → 266 ≤ b → holds_byte free_table b ≡ false
+        off b le = grind (arith, nat_tests)
+
+    free : 0 + cover (filter is_free gaps) b ≡ 0
+    free = let k = cover_kinds b gaps in let o = (gaps_apart gaps g).once b in omega (arith, k, o, some)
+
+-- a filler's byte, of a gap that was made or of one that was there
+gap_filler : (p n b : ℕ) (gs : List Extent) → 0 < cover (filter is_filler (new_gap p n ∷ gs)) b → ((n < 32) × (p ≤ b) × (b < p + n)) ⊎ (0 < cover (filter is_filler gs) b)
+gap_filler p n b gs some = by_test (nat_lt n 32) refl some
+  where
+    short : nat_lt n 32 ≡ true → n < 32
+    short e = grind (arith, nat_tests)
+
+    inside : (t : Bool) → (nat_le p b && nat_lt b (p + n)) ≡ t → n < 32 → 0 < cond t 1 0 + cover (filter is_filler gs) b → ((n < 32) × (p ≤ b) × (b < p + n)) ⊎ (0 < cover (filter is_filler gs) b)
+    inside true e lt h = let x = both_hold e in inl (lt, x.0, x.1)
+      where
+        first : (a b : Bool) → (a && b) ≡ true → (a ≡ true) × (b ≡ true)
+        first true b e = (refl, e)
+        first false b e = cc
+
+        low : nat_le p b ≡ true → p ≤ b
+        low e = grind (arith, nat_tests)
+
+        high : nat_lt b (p + n) ≡ true → b < p + n
+        high e = grind (arith, nat_tests)
+
+        both_hold : (nat_le p b && nat_lt b (p + n)) ≡ true → (p ≤ b) × (b < p + n)
+        both_hold e = let x = first (nat_le p b) (nat_lt b (p + n)) e in (low x.0, high x.1)
+    inside false e lt h = inr (omega (arith, h))
+
+    by_test : (t : Bool) → nat_lt n 32 ≡ t → 0 < cover (filter is_filler (cond t (extent ExtentKind.Filler p n) (extent ExtentKind.FreeChunk p n) ∷ gs)) b → ((n < 32) × (p ≤ b) × (b < p + n)) ⊎ (0 < cover (filter is_filler gs) b)
+    by_test true e h = inside (nat_le p b && nat_lt b (p + n)) refl (short e) h
+    by_test false e h = inr h
+
+pub cut_fillers : (gaps : List Extent) (i n : ℕ) (gap : Extent) (a b c : Option (List ℕ)) → gap ≡ gap_at gaps i → AreGaps gaps → IsFirstFit n gaps i → Both (ChangesOnly (free_table ∷ filter is_free gaps)) a b
+    → Both (WritesGap (gap.place + n) (gap.length - n)) b c → Both (ChangesOnly (free_table ∷ filter is_free gaps)) a c → Both (KeepsFillers gaps (cut n gaps)) a c
+cut_fillers gaps i n gap a b c is g fit v w u = go a b c v (subst (λ (x : Extent). Both (WritesGap (x.place + n) (x.length - n)) b c) is w) u
+  where
+    go : (a b c : Option (List ℕ)) → Both (ChangesOnly (free_table ∷ filter is_free gaps)) a b → Both (WritesGap ((gap_at gaps i).place + n) ((gap_at gaps i).length - n)) b c → Both (ChangesOnly (free_table ∷ filter is_free gaps)) a c
+        → Both (KeepsFillers gaps (cut n gaps)) a c
+    go None None None v w u = tt
+    go None None (Some c) v w u = u
+    go None (Some b) c v w u = absurd v
+    go (Some a) None c v w u = absurd v
+    go (Some a) (Some b) None v w u = u
+    go (Some a) (Some b) (Some c) v w u = λ held k some.
+        elim (gap_filler ((gap_at gaps i).place + n) ((gap_at gaps i).length - n) k (remove gaps i) (subst (λ m. 0 < m) (filler_cut n i gaps k fit) some)) [
+          | inl h ↦ w.fills h.0 k h.1 h.2
+          | inr h ↦ (let le = filler_removed i gaps k in let more : 0 < cover (filter is_filler gaps) k = omega (arith, h, le) in u.others k (filler_apart gaps k g more) ∙ held k more)
+        ]
+
+pub give_fillers : (gaps : List Extent) (place n : ℕ) (a c : Option (List ℕ)) → AreGaps gaps → MeetsNone place n gaps → Both (WritesGap place n) a c → Both (ChangesOnly (free_table ∷ range place n ∷ [])) a c → Both (KeepsFillers gaps (give_alone place n gaps)) a c
+give_fillers gaps place n None None g none w u = tt
+give_fillers gaps place n None (Some c) g none w u = u
+give_fillers gaps place n (Some a) None g none w u = u
+give_fillers gaps place n (Some a) (Some c) g none w u = λ held k some.
+    elim (gap_filler place n k gaps (subst (λ m. 0 < m) (filler_put k (new_gap place n) gaps) some)) [
+      | inl h ↦ w.fills h.0 k h.1 h.2
+      | inr h ↦ u.others k (apart k h) ∙ held k h
+    ]
+  where
+    apart : (k : ℕ) → 0 < cover (filter is_filler gaps) k → cover (free_table ∷ range place n ∷ []) k ≡ 0
+    apart k some = rw (table, out)
+      where
+        table : holds_byte free_table k ≡ false
+        table = (none_holds free_table (filter is_free gaps) k (filler_apart gaps k g some)).0
+
+        outside : (place ≤ k → k < place + n → ⊥) → holds_byte (range place n) k ≡ false
+        outside f = by_test (holds_byte (range place n) k) refl
+          where
+            low : holds_byte (range place n) k ≡ true → place ≤ k
+            low e = grind (arith, nat_tests)
+
+            high : holds_byte (range place n) k ≡ true → k < place + n
+            high e = grind (arith, nat_tests)
+
+            by_test : (t : Bool) → holds_byte (range place n) k ≡ t → t ≡ false
+            by_test true e = absurd (f (low e) (high e))
+            by_test false e = refl
+
+        out : holds_byte (range place n) k ≡ false
+        out = outside (λ low high. let z = none k low high in let c = cover_kinds k gaps in omega (arith, z, c, some))
+
+pub give_threads : (gaps : List Extent) (place n : ℕ) (a c : Option (List ℕ)) → AreGaps gaps → MeetsNone place n gaps → 266 ≤ place → IfSome a (λ bytes. ThreadsFreeChunks bytes gaps) → Both (WritesGap place n) a c
+    → IfSome c (λ bytes. ThreadsFreeChunks bytes (give_alone place n gaps))
+give_threads gaps place n None None g none low t w = tt
+give_threads gaps place n None (Some c) g none low t w = absurd w
+give_threads gaps place n (Some a) None g none low t w = absurd w
+give_threads gaps place n (Some a) (Some c) g none low t w =
+    same_threads c (new_gap place n ∷ gaps) (give_alone place n gaps) (λ q m. sym (free_put q m (new_gap place n) gaps))
+    (w.threads gaps (free_of_gaps gaps place n none) (free_of_gaps gaps 186 80 (low_apart gaps g)) low t)
+
+-- bytes beside the free table and the free chunks stay
+pub fillers_stay : (xs gaps : List Extent) (a c : Option (List ℕ)) → AreGaps gaps → ((b : ℕ) → 266 ≤ b → cover xs b ≡ 0) → Both (ChangesOnly xs) a c → Both (KeepsFillers gaps gaps) a c
+fillers_stay xs gaps None None g none u = tt
+fillers_stay xs gaps None (Some c) g none u = u
+fillers_stay xs gaps (Some a) None g none u = u
+fillers_stay xs gaps (Some a) (Some c) g none u = λ held k some. u.others k (none k (high k some)) ∙ held k some
+  where
+    high : (k : ℕ) → 0 < cover (filter is_filler gaps) k → 266 ≤ k
+    high k some = elim (leb_tells 266 k) [ inl h ↦ h.1 | inr h ↦ (let z = (gaps_apart gaps g).low k h.1 in let c = cover_kinds k gaps in absurd (omega (arith, z, c, some))) ]

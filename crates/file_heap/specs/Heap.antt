@@ -1,0 +1,120 @@
+-- The free space of a file in memory, and what its calls answer and change.
+use Rattle.std.specs.Prelude.{◌≡◌, ℕ, ◌+◌, ◌*◌, ◌<◌, ◌≤◌, ◌^◌, get_or, List, ◌∷◌, ◌++◌, length, filter, Option, Some, None, Result, Ok, Err, ⊤}
+use Rattle.std.specs.List.{AllByRecursion}
+use Rattle.std.specs.Global.{Vec}
+use Rattle.cg_io.specs.Cause.{Rose}
+use Rattle.cg_io.specs.Device.{DeviceState}
+use Rattle.adf_format.specs.declared.types.Extent.{Extent}
+use Rattle.adf_format.specs.declared.types.ExtentKind.{ExtentKind}
+use Rattle.adf_format.specs.Tiles.{Tiles, cover, end_of, is_filler}
+use Rattle.adf_format.specs.Placement.{Heap, extent}
+use Rattle.adf_format.specs.LaysOut.{AreGapsInOrder, ThreadsFreeChunks}
+use Rattle.adf_format.specs.Fields.{field}
+use Rattle.adf_format.specs.Pointer.{PointsTo}
+use Rattle.file_heap.specs.Links.{AreApart}
+use Rattle.adf_format.specs.HeapRule.{heap_take, give_alone}
+use Rattle.adf_model.specs.declared.error.AdfError.{AdfError}
+use Rattle.adf_model.specs.declared.error.AdfError.TheVariants as error
+
+-- ---- the free space
+
+-- the free space in work, as it was last accepted, and the address limit in blocks
+pub record HeapState : Type 0 where
+  pub now : Heap
+  pub kept : Heap
+  pub limit : ℕ
+
+-- the gaps stand by place, behind the free table and up to the end
+pub record IsHeap (heap : Heap) : Type 0 where
+  pub order : AreGapsInOrder heap.gaps
+  pub within : AllByRecursion (λ (g : Extent). (266 ≤ g.place) × (end_of g ≤ heap.end + 1)) heap.gaps
+  pub low : 265 ≤ heap.end
+  pub high : heap.end < 2 ^ 44
+
+-- both are heaps, and the limit is one of the format
+pub record AreHeaps (now kept : Heap) (limit : ℕ) : Type 0 where
+  pub now_is : IsHeap now
+  pub kept_is : IsHeap kept
+  pub some : 1 ≤ limit
+  pub most : limit ≤ 2 ^ 32
+
+-- the gaps in work, or those that were accepted where no call changed them since
+abbrev pub gaps_in : Option (Vec Extent) → List Extent → List Extent
+gaps_in None kept = kept
+gaps_in (Some work) kept = work.items
+
+-- ---- the answers
+
+-- n bytes are taken by the heap rule, or the limit is reached exactly where it says so; a refusal leaves the heap
+abbrev pub TakesBy : ℕ → ℕ → Heap → Result ℕ AdfError → Heap → Type 0
+TakesBy limit n old (Ok place) new = heap_take limit n old ≡ Ok (place, new)
+TakesBy limit n old (Err (error.Full asked end)) new = (heap_take limit n old ≡ Err (record { asked = asked; end = end })) × (new ≡ old)
+TakesBy limit n old (Err other) new = ((place : ℕ) × (after : Heap) × (heap_take limit n old ≡ Ok (place, after))) × (new ≡ old)
+
+-- the end grows by n bytes, or the limit is reached; a refusal leaves the end
+abbrev pub Grows : ℕ → ℕ → ℕ → Result ℕ AdfError → ℕ → Type 0
+Grows limit n old (Ok place) new = (old + 1 + n ≤ limit * 4096) × (place ≡ old + 1) × (new ≡ old + n)
+Grows limit n old (Err (error.Full asked end)) new = (limit * 4096 < old + 1 + n) × (asked ≡ n) × (end ≡ old) × (new ≡ old)
+Grows limit n old (Err other) new = (old + 1 + n ≤ limit * 4096) × (new ≡ old)
+
+-- a range is given to the gaps, where only fillers that touch are joined
+abbrev pub given : ℕ → ℕ → Heap → Heap
+given place n heap = record heap { gaps = give_alone place n heap.gaps }
+
+-- bytes that are not told
+abbrev pub IsUntold : Option (List ℕ) → Type 0
+IsUntold None = ⊤
+IsUntold (Some bytes) = ⊥
+
+-- why a call was refused: want of memory, a failed read, or, under a condition, the layout of the bytes
+abbrev pub IsRefusal : Type 0 → ℕ → ℕ → AdfError → Type 0
+IsRefusal unread before now error.Memory = ⊤
+IsRefusal unread before now error.ReadFault = Rose before now
+IsRefusal unread before now (error.Layout rule place) = unread
+IsRefusal unread before now other = ⊥
+
+-- the same, or that the limit is reached
+abbrev pub IsTakeRefusal : Type 0 → ℕ → ℕ → AdfError → Type 0
+IsTakeRefusal unread before now (error.Full asked end) = ⊤
+IsTakeRefusal unread before now other = IsRefusal unread before now other
+
+-- ---- the bytes
+
+-- no byte is lost, and each that lies in none of the ranges reads as before, with zeros past the end
+pub record ChangesOnly (ranges : List Extent) (old new : List ℕ) : Type 0 where
+  pub longer : length old ≤ length new
+  pub others : (b : ℕ) → cover ranges b ≡ 0 → get_or new b 0 ≡ get_or old b 0
+
+-- each byte of a filler is `z`
+abbrev pub HoldsFillers : List ℕ → List Extent → Type 0
+HoldsFillers bytes gaps = (b : ℕ) → 0 < cover (filter is_filler gaps) b → get_or bytes b 0 ≡ 122
+
+-- where the fillers among some gaps hold `z` alone, those among the others do so afterwards
+abbrev pub KeepsFillers : List Extent → List Extent → List ℕ → List ℕ → Type 0
+KeepsFillers gaps after old new = HoldsFillers old gaps → HoldsFillers new after
+
+-- where the end pointer names the one end, it names the other afterwards
+abbrev pub MovesEnd : ℕ → ℕ → List ℕ → List ℕ → Type 0
+MovesEnd end after old new = PointsTo (field old 146 12) end → PointsTo (field new 146 12) after
+
+-- the lists thread the free chunks among gaps as before
+abbrev pub KeepsThreads : List ℕ → List ℕ → Type 0
+KeepsThreads old new = (gaps : List Extent) → AreApart gaps → ThreadsFreeChunks old gaps → ThreadsFreeChunks new gaps
+
+-- what calls of a space leave of the device below: its bytes and writes, and no count falls
+pub record Looks (old new : DeviceState) : Type 0 where
+  pub held : new.held ≡ old.held
+  pub lost : new.lost ≡ old.lost
+  pub writes : new.writes ≡ old.writes
+  pub reads : old.reads ≤ new.reads
+  pub faults : old.faults ≤ new.faults
+
+-- ---- tiles
+
+-- a range that is taken was in none of the extents that tile the file with the gaps, and tiles it with them afterwards
+abbrev pub TakesOfTiles : ℕ → Heap → Heap → ℕ → Type 0
+TakesOfTiles n old new place = (kind : ExtentKind) (used : List Extent) → Tiles (used ++ old.gaps) old.end → Tiles (extent kind place n ∷ used ++ new.gaps) new.end
+
+-- a range that is given is covered by the gaps afterwards
+abbrev pub GivesToTiles : ℕ → ℕ → Heap → Heap → Type 0
+GivesToTiles place n old new = (kind : ExtentKind) (used : List Extent) → Tiles (extent kind place n ∷ used ++ old.gaps) old.end → Tiles (used ++ new.gaps) new.end

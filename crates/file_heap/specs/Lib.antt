@@ -1,0 +1,3 @@
+pub mod Gaps
+pub mod Links
+pub mod Heap

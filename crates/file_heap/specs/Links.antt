@@ -1,0 +1,145 @@
+-- The lists of free chunks in the bytes: where a pointer to a free chunk stands, and what the parts of a call write.
+use Rattle.std.specs.Prelude.{codes, ◌≡◌, ◌≢◌, ℕ, ◌+◌, ◌-◌, ◌*◌, ◌<◌, ◌≤◌, ◌^◌, get_or, List, [], ◌∷◌, ◌++◌, length, filter, Option, Some, None, ⊤}
+use Rattle.std.specs.List.{AllByRecursion}
+use Rattle.adf_format.specs.declared.types.Extent.{Extent}
+use Rattle.adf_format.specs.declared.types.ExtentKind.{ExtentKind}
+use Rattle.adf_format.specs.Pointer.{To, pointer_text}
+use Rattle.adf_format.specs.Records.{free_head_text}
+use Rattle.adf_format.specs.Spelled.{pointer_to}
+use Rattle.adf_format.specs.Tiles.{cover, end_of, is_free, MeetsNone}
+use Rattle.adf_format.specs.Parts.{HasPointer}
+use Rattle.adf_format.specs.Placement.{extent}
+use Rattle.adf_format.specs.LaysOut.{ThreadsFreeChunks, AreGapsInOrder, count_of, last_place}
+use Rattle.adf_format.specs.Changes.{Writes}
+use Rattle.adf_format.specs.HeapRule.{new_gap}
+use Rattle.file_heap.specs.declared.lists.Spot.{Spot}
+
+-- where the pointer to the chunk behind another stands, or that to the first of list k
+abbrev pub link_at : ℕ → Option ℕ → ℕ
+link_at k None = 190 + 24 * k
+link_at k (Some front) = front + 16
+
+-- a chunk at this place has its head below the greatest place
+abbrev pub HasHead : Option ℕ → Type 0
+HasHead None = ⊤
+HasHead (Some place) = place + 32 ≤ 2 ^ 44
+
+-- the bytes have a pointer at an offset
+pub record Points (bytes : List ℕ) (at : ℕ) (there : Option ℕ) : Type 0 where
+  pub within : at + 12 ≤ length bytes
+  pub says : HasPointer bytes at there
+
+-- the bytes thread no list of gaps
+abbrev pub ThreadsNone : Option (List ℕ) → Type 0
+ThreadsNone None = ⊤
+ThreadsNone (Some bytes) = (gaps : List Extent) → ThreadsFreeChunks bytes gaps → ⊥
+
+-- where bytes are told, a pointer that stands there is the one that was read
+abbrev pub Follows : Option (List ℕ) → ℕ → Option ℕ → Type 0
+Follows None at next = ⊤
+Follows (Some bytes) at next = (there : Option ℕ) → Points bytes at there → next ≡ there
+
+-- where bytes are told, no pointer stands there
+abbrev pub PointsNowhere : Option (List ℕ) → ℕ → Type 0
+PointsNowhere None at = ⊤
+PointsNowhere (Some bytes) at = (there : Option ℕ) → Points bytes at there → ⊥
+
+-- the gaps cover no byte twice, and none before the free table's end or from the greatest place on
+pub record AreApart (gaps : List Extent) : Type 0 where
+  pub once : (b : ℕ) → cover gaps b ≤ 1
+  pub low : (b : ℕ) → b < 266 → cover gaps b ≡ 0
+  pub high : (b : ℕ) → 2 ^ 44 ≤ b → cover gaps b ≡ 0
+
+-- the lists that the bytes thread
+abbrev pub list_of : {bytes : List ℕ} {gaps : List Extent} → ThreadsFreeChunks bytes gaps → ℕ → List Extent
+list_of t k = get_or (t.small ∷ t.medium ∷ t.large ∷ []) k []
+
+-- a chunk of the list stands at the place, behind the one in front
+pub record IsBehind (fs : List Extent) (place : ℕ) (front : Option ℕ) : Type 0 where
+  pub before : List Extent
+  pub chunk : Extent
+  pub after : List Extent
+  pub is : fs ≡ before ++ chunk ∷ after
+  pub here : chunk.place ≡ place
+  pub follows : front ≡ last_place before
+
+-- none of the chunks stands at the place
+abbrev pub NoneAt : ℕ → List Extent → Type 0
+NoneAt place fs = AllByRecursion (λ (f : Extent). f.place ≢ place) fs
+
+-- some chunks of the list are passed, none of which stands at the place
+pub record HasPassed (fs : List Extent) (place : ℕ) (front : Option ℕ) (count : ℕ) : Type 0 where
+  pub before : List Extent
+  pub after : List Extent
+  pub is : fs ≡ before ++ after
+  pub follows : front ≡ last_place before
+  pub long : length before ≡ count
+  pub none : NoneAt place before
+
+abbrev pub IsFound : List Extent → ℕ → Option Spot → Type 0
+IsFound fs place (Some spot) = IsBehind fs place spot.front
+IsFound fs place None = NoneAt place fs
+
+-- a spot of this list, within the greatest place
+abbrev pub IsSpotIn : ℕ → Option Spot → Type 0
+IsSpotIn list None = ⊤
+IsSpotIn list (Some spot) = (spot.list ≡ list) × HasHead spot.front
+
+-- what stands in front of the chunk at a place, in the list of the spot
+abbrev pub IsSpotOf : {bytes : List ℕ} {gaps : List Extent} → ThreadsFreeChunks bytes gaps → ℕ → Spot → Type 0
+IsSpotOf t place spot = IsBehind (list_of t spot.list) place spot.front
+
+-- a free chunk stands at the place
+abbrev pub IsFreeAt : ℕ → List Extent → Type 0
+IsFreeAt place gaps = (n : ℕ) × (0 < count_of place n (filter is_free gaps))
+
+-- the gaps stand by place, behind the free table and below the greatest place
+pub record AreGaps (gaps : List Extent) : Type 0 where
+  pub order : AreGapsInOrder gaps
+  pub within : AllByRecursion (λ (g : Extent). (266 ≤ g.place) × (end_of g ≤ 2 ^ 44)) gaps
+
+-- ---- what is written
+
+-- list k ends at the chunk in front from now on, where nothing is behind that
+abbrev pub EndsList : ℕ → Option ℕ → Option ℕ → List ℕ → List ℕ → Type 0
+EndsList k None front old new = Writes (202 + 24 * k) (pointer_text (pointer_to front)) old new
+EndsList k (Some next) front old new = new ≡ old
+
+-- the pointer behind a chunk, or to the first of list k, is written over, and the last pointer of the list with it
+pub record Relinks (k : ℕ) (front next : Option ℕ) (old new : List ℕ) : Type 0 where
+  pub middle : List ℕ
+  pub link : Writes (link_at k front) (pointer_text (pointer_to next)) old middle
+  pub last : EndsList k next front middle new
+
+-- the head and the end tag of a free chunk are written
+pub record WritesChunk (place length : ℕ) (next : Option ℕ) (old new : List ℕ) : Type 0 where
+  pub headed : List ℕ
+  pub head : Writes place (free_head_text (To (place + length - 4)) (pointer_to next)) old headed
+  pub tail : Writes (place + length - 4) (codes "EndC") headed new
+
+-- a free chunk is written in front of the first of list k
+pub record Pushes (place length k : ℕ) (first : Option ℕ) (old new : List ℕ) : Type 0 where
+  pub whole : List ℕ
+  pub linked : List ℕ
+  pub follows : Follows (Some old) (190 + 24 * k) first
+  pub chunk : WritesChunk place length first old whole
+  pub link : Writes (190 + 24 * k) (pointer_text (To place)) whole linked
+  pub last : EndsList k first (Some place) linked new
+
+-- a gap is written: a filler's bytes, or a free chunk that joins the free chunks in the lists
+pub record WritesGap (place length : ℕ) (old new : List ℕ) : Type 0 where
+  pub threads : (gaps : List Extent) → MeetsNone place length (filter is_free gaps) → MeetsNone 186 80 (filter is_free gaps) → 266 ≤ place → ThreadsFreeChunks old gaps → ThreadsFreeChunks new (new_gap place length ∷ gaps)
+  pub fills : length < 32 → (b : ℕ) → place ≤ b → b < place + length → get_or new b 0 ≡ 122
+
+-- ---- what may change
+
+abbrev pub range : ℕ → ℕ → Extent
+range place length = extent ExtentKind.FreeChunk place length
+
+abbrev pub free_table : Extent
+free_table = extent ExtentKind.FreeTable 186 80
+
+-- the pointer behind a chunk
+abbrev pub link_range : Option ℕ → List Extent
+link_range None = []
+link_range (Some front) = range (front + 16) 12 ∷ []

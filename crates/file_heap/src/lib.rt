@@ -1,0 +1,17 @@
+//! The free space of a file: gaps by place, the last byte, and the three lists of free chunks that the bytes thread.
+//!
+//! The gaps stand in memory. The bytes of the free chunks, of the fillers, of the free table and of the end pointer stand
+//! in a space, which each call is lent.
+#![tactic(auto)]
+
+mod gaps;
+mod heap;
+mod links;
+mod lists;
+
+pub use heap::Heap;
+
+#[cfg(test)]
+mod conditions;
+#[cfg(test)]
+mod tests;

@@ -1,0 +1,115 @@
+// Pointers and bytes in a space.
+ghost use Rattle.std.specs.Prelude.{◌≡◌, ℕ, ◌∷◌, [], ◌^◌, ◌+◌, ◌*◌, ◌≤◌, ◌<◌, length, IfOk, IfErr, OnOk};
+ghost use Rattle.cg_io.specs.Blocks.{Both};
+ghost use Rattle.disk_ptr.specs.View.{view, HasOffset};
+ghost use Rattle.adf_format.specs.Pointer.{pointer_text};
+ghost use Rattle.adf_format.specs.Spelled.{pointer_to, IsInReach};
+ghost use Rattle.adf_format.specs.Changes.{Writes};
+ghost use Rattle.file_heap.specs.Links.{link_at, Follows, PointsNowhere, HasHead, range};
+ghost use Rattle.file_heap.specs.Heap.{ChangesOnly, Looks, IsRefusal};
+
+use adf_model::AdfError;
+use cg_io::{Space, SpaceFault};
+use disk_ptr::{DiskPtr, decode, encode, from_place, place as place_named};
+
+/// The pointer to a place, or the blank one.
+pub(crate) fn pointer_of(place: Option<u64>) -> DiskPtr
+    requires { IsInReach place }
+    ensures view { view result ≡ pointer_to place }
+    ensures offset { HasOffset result }
+{
+    match place {
+        None => DiskPtr::Blank,
+        Some(place) => from_place(place),
+    }
+}
+
+// The place that a pointer names, or none where it is blank.
+fn place_of(pointer: DiskPtr) -> Option<u64>
+    requires { HasOffset pointer }
+    ensures place { pointer_to result ≡ view pointer }
+    ensures reach { IsInReach result }
+{
+    place_named(pointer)
+}
+
+/// Where the pointer to the chunk behind another stands, or the pointer to the first of the list.
+pub(crate) fn link_at(list: u64, front: Option<u64>) -> u64
+    requires list { list < 3 }
+    requires head { HasHead front }
+    ensures place { result ≡ link_at list front }
+    ensures within { result + 12 ≤ 2 ^ 44 }
+{
+    match front {
+        None => 190 + 24 * list,
+        Some(front) => front + 16,
+    }
+}
+
+/// Writes bytes at a place.
+#[tactic(auto, using(crate::proofs::Images::all_written, crate::proofs::Images::all_changed, crate::proofs::Images::refused_changed))]
+pub(crate) fn write_bytes<S: Space>(space: &mut S, at: u64, bytes: &[u8]) -> Result<(), AdfError>
+    requires sound { S.is_sound space.old }
+    requires within { at + length bytes.now ≤ 2 ^ 44 }
+    ensures sound { S.is_sound space.new }
+    ensures written { OnOk result (Both (Writes at bytes.now) (S.image space.old) (S.image space.new)) }
+    ensures bytes { Both (ChangesOnly (range at (length bytes.now) ∷ [])) (S.image space.old) (S.image space.new) }
+    ensures effect { Looks (S.state space.old) (S.state space.new) }
+    ensures cause { IfErr result (IsRefusal ⊥ (S.state space.old).faults (S.state space.new).faults) }
+{
+    match space.write(at, bytes) {
+        Ok(()) => Ok(()),
+        Err(SpaceFault::Memory) => Err(AdfError::Memory),
+        Err(SpaceFault::Read) => Err(AdfError::ReadFault),
+    }
+}
+
+/// Writes the pointer to a free chunk, or the blank one.
+pub(crate) fn write_link<S: Space>(
+    space: &mut S,
+    at: u64,
+    next: Option<u64>,
+) -> Result<(), AdfError>
+    requires sound { S.is_sound space.old }
+    requires within { at + 12 ≤ 2 ^ 44 }
+    requires reach { IsInReach next }
+    ensures sound { S.is_sound space.new }
+    ensures written { OnOk result (Both (Writes at (pointer_text (pointer_to next))) (S.image space.old) (S.image space.new)) }
+    ensures bytes { Both (ChangesOnly (range at 12 ∷ [])) (S.image space.old) (S.image space.new) }
+    ensures effect { Looks (S.state space.old) (S.state space.new) }
+    ensures cause { IfErr result (IsRefusal ⊥ (S.state space.old).faults (S.state space.new).faults) }
+{
+    write_bytes(space, at, &encode(pointer_of(next)))
+}
+
+// What stands in the free table or in a free chunk is no pointer.
+fn no_pointer(at: u64) -> AdfError
+    ensures { (rule : ℕ) × (result ≡ AdfError.Layout rule at) }
+{
+    AdfError::Layout {
+        rule: if at < 266 { 10 } else { 29 },
+        place: at,
+    }
+}
+
+/// The free chunk that a pointer names, or none where it is blank.
+#[tactic(auto, using(crate::proofs::Images::follows, crate::proofs::Images::points_nowhere))]
+pub(crate) fn read_link<S: Space>(space: &mut S, at: u64) -> Result<Option<u64>, AdfError>
+    requires sound { S.is_sound space.old }
+    requires within { at + 12 ≤ 2 ^ 44 }
+    ensures sound { S.is_sound space.new }
+    ensures image { S.image space.new ≡ S.image space.old }
+    ensures told { IfOk result (Follows (S.image space.old) at) }
+    ensures reach { IfOk result IsInReach }
+    ensures effect { Looks (S.state space.old) (S.state space.new) }
+    ensures cause { IfErr result (IsRefusal (PointsNowhere (S.image space.old) at) (S.state space.old).faults (S.state space.new).faults) }
+{
+    let mut text = [0u8; 12];
+    match space.read(at, &mut text) {
+        Ok(()) => match decode(&text) {
+            Some(pointer) => Ok(place_of(pointer)),
+            None => Err(no_pointer(at)),
+        },
+        Err(_) => Err(AdfError::ReadFault),
+    }
+}
