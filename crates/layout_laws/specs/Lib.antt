@@ -1,0 +1,4 @@
+pub mod FoundLayout
+pub mod TilePass
+pub mod ListPass
+pub mod NodePass
