@@ -5,6 +5,7 @@ use Rattle.std.specs.Prelude.{Option, None, Result, Ok, Err, OnOk, OnErr, IfOk, 
 use Rattle.cg_io.specs.Blocks.{Both}
 use Rattle.adf_model.specs.declared.error.AdfError.{AdfError}
 use Rattle.adf_model.specs.declared.error.AdfError.TheVariants as error
+use Rattle.adf_format.specs.declared.fields.TheConstants.{HEADER_END}
 use Rattle.adf_format.specs.declared.types.Extent.{Extent}
 use Rattle.adf_format.specs.declared.types.ExtentKind.{ExtentKind}
 use Rattle.adf_format.specs.Tiles.{cover, holds_byte, is_free, MeetsNone}
@@ -16,7 +17,7 @@ use Rattle.adf_format.proofs.CountLaws.{none_holds}
 use Rattle.adf_format.proofs.HeapSteps.{take_tiles}
 use Rattle.file_heap.specs.Gaps.{IsFirstFit, gap_at}
 use Rattle.file_heap.specs.Heap.{IsHeap, TakesBy, TakesOfTiles, GivesToTiles, Grows, IsRefusal, ChangesOnly, MovesEnd, KeepsThreads, KeepsFillers}
-use Rattle.file_heap.specs.Links.{AreGaps, range, free_table}
+use Rattle.file_heap.specs.Links.{AreGaps, range, free_table, end_pointer}
 use Rattle.file_heap.proofs.Ranges.{cover_kinds}
 use Rattle.file_heap.proofs.ChangeLaws.{IsWithin, widened}
 use Rattle.file_heap.proofs.Effects.{on_ok}
@@ -59,18 +60,18 @@ takes_of_tiles limit n old new (Err e) t = tt
 pub grown_lists : {T : Type 0} (r : Result T AdfError) (heap : Heap) (old new : Option (List ℕ)) → IsHeap heap → OnOk r (Both KeepsThreads old new) → IfSome old (λ bytes. ThreadsFreeChunks bytes heap.gaps) → OnOk r (IfSome new (λ bytes. ThreadsFreeChunks bytes heap.gaps))
 grown_lists r heap old new h k t = on_ok r (λ keeps. kept_threads heap.gaps old new (gaps_apart heap.gaps (heap_gaps heap h)) keeps t) k
 
-end_range : (b : ℕ) → 266 ≤ b → cover (range 146 12 ∷ []) b ≡ 0
+end_range : (b : ℕ) → 266 ≤ b → cover (end_pointer ∷ []) b ≡ 0
 end_range b le = grind (arith, nat_tests)
 
-pub grown_fillers : {T : Type 0} (r : Result T AdfError) (heap : Heap) (old new : Option (List ℕ)) → IsHeap heap → Both (ChangesOnly (range 146 12 ∷ [])) old new → OnOk r (Both (KeepsFillers heap.gaps heap.gaps) old new)
-grown_fillers (Ok x) heap old new h c = fillers_stay (range 146 12 ∷ []) heap.gaps old new (heap_gaps heap h) end_range c
+pub grown_fillers : {T : Type 0} (r : Result T AdfError) (heap : Heap) (old new : Option (List ℕ)) → IsHeap heap → Both (ChangesOnly (end_pointer ∷ [])) old new → OnOk r (Both (KeepsFillers heap.gaps heap.gaps) old new)
+grown_fillers (Ok x) heap old new h c = fillers_stay (end_pointer ∷ []) heap.gaps old new (heap_gaps heap h) end_range c
 grown_fillers (Err e) heap old new h c = tt
 
-fields_within : (gaps : List Extent) → IsWithin (range 146 12 ∷ []) (heap_fields ++ gaps)
-fields_within gaps b none = let off : holds_byte (range 146 12) b ≡ false = (none_holds (extent ExtentKind.Header 146 12) (free_table ∷ gaps) b none).0 in rw off
+fields_within : (gaps : List Extent) → IsWithin (end_pointer ∷ []) (heap_fields ++ gaps)
+fields_within gaps b none = let off : holds_byte end_pointer b ≡ false = (none_holds (extent ExtentKind.Header HEADER_END.offset HEADER_END.length) (free_table ∷ gaps) b none).0 in rw off
 
-pub grown_changes : (gaps : List Extent) (old new : Option (List ℕ)) → Both (ChangesOnly (range 146 12 ∷ [])) old new → Both (ChangesOnly (heap_fields ++ gaps)) old new
-grown_changes gaps old new c = widened (range 146 12 ∷ []) (heap_fields ++ gaps) old new (fields_within gaps) c
+pub grown_changes : (gaps : List Extent) (old new : Option (List ℕ)) → Both (ChangesOnly (end_pointer ∷ [])) old new → Both (ChangesOnly (heap_fields ++ gaps)) old new
+grown_changes gaps old new c = widened (end_pointer ∷ []) (heap_fields ++ gaps) old new (fields_within gaps) c
 
 -- ---- from a free chunk
 
@@ -89,7 +90,7 @@ cut_heap n gaps new end i (Err e) some fit is stays h = subst (λ xs. IsHeap (he
 
 frees_within : (gaps : List Extent) → IsWithin (free_table ∷ filter is_free gaps) (heap_fields ++ gaps)
 frees_within gaps b none =
-    let inner = none_holds (extent ExtentKind.Header 146 12) (free_table ∷ gaps) b none in
+    let inner = none_holds (extent ExtentKind.Header HEADER_END.offset HEADER_END.length) (free_table ∷ gaps) b none in
     let next = none_holds free_table gaps b inner.1 in
     let off : holds_byte free_table b ≡ false = next.0 in
     let z : cover gaps b ≡ 0 = next.1 in
@@ -102,7 +103,7 @@ cut_changed gaps old new c = widened (free_table ∷ filter is_free gaps) (heap_
 not_table : (b : ℕ) → b < 158 → holds_byte free_table b ≡ false
 not_table b lt = grind (arith, nat_tests)
 
-frees_behind : (gaps : List Extent) → AreGaps gaps → MeetsNone 146 12 (free_table ∷ filter is_free gaps)
+frees_behind : (gaps : List Extent) → AreGaps gaps → MeetsNone HEADER_END.offset HEADER_END.length (free_table ∷ filter is_free gaps)
 frees_behind gaps g b low high =
     let off = not_table b high in let z = (gaps_apart gaps g).low b (omega (arith, high)) in let k = cover_kinds b gaps in rw off (omega (arith, z, k))
 
@@ -131,7 +132,7 @@ given_end (Err e) heap place n old new behind t c = tt
 
 gift_within : (place n : ℕ) (gaps : List Extent) → IsWithin (free_table ∷ range place n ∷ []) (heap_fields ++ range place n ∷ gaps)
 gift_within place n gaps b none =
-    let inner = none_holds (extent ExtentKind.Header 146 12) (free_table ∷ range place n ∷ gaps) b none in
+    let inner = none_holds (extent ExtentKind.Header HEADER_END.offset HEADER_END.length) (free_table ∷ range place n ∷ gaps) b none in
     let next = none_holds free_table (range place n ∷ gaps) b inner.1 in
     let off : holds_byte free_table b ≡ false = next.0 in
     let out : holds_byte (range place n) b ≡ false = (none_holds (range place n) gaps b next.1).0 in rw (off, out)

@@ -1,8 +1,10 @@
 -- A free chunk is put in front of a list, and a filler is filled.
-use Rattle.std.proofs.Common.{◌≡◌, inl, inr, ℕ, zero, suc, refl, sym, ◌∙◌, ap, subst, arith, List, [], ◌∷◌, ◌++◌, length, length-append, replicate, take, get_or, filter, ◌+◌, ◌-◌, ◌*◌, ◌<◌, ◌≤◌, ◌^◌, true, false}
+use Rattle.std.proofs.Common.{◌≡◌, inl, inr, ℕ, zero, suc, refl, sym, ◌∙◌, ap, subst, arith, List, [], ◌∷◌, ◌++◌, length, length-append, replicate, take, get_or, filter, ◌+◌, ◌-◌, ◌<◌, ◌≤◌, ◌^◌, true, false}
 use Rattle.std.proofs.lemmas.Bool.Decides.{nat_tests}
 use Rattle.std.specs.Prelude.{Option, Some, None, codes, slice_get, slice_set, nat_lt}
 use Rattle.cg_io.specs.Blocks.{Both}
+use Rattle.adf_format.specs.declared.fields.TheConstants.{FREE_TABLE_PLACE, FREE_TABLE_LENGTH}
+use Rattle.adf_format.specs.RecordFields.{list_first}
 use Rattle.adf_format.specs.declared.types.Extent.{Extent}
 use Rattle.adf_format.specs.declared.types.ExtentKind.{ExtentKind}
 use Rattle.adf_format.specs.Fields.{field}
@@ -111,7 +113,7 @@ not_in : (place n b : ℕ) → b < place → in_range place n b ≡ 0
 not_in place n b lt = grind (arith, nat_tests)
 
 module _ (place n k : ℕ) (first : Option ℕ) (old new : List ℕ) (long : 32 ≤ n) (near : place + n ≤ 2 ^ 44) (few : k < 3) (p : Pushes place n k first old new) (gaps : List Extent) (apart : MeetsNone place n (filter is_free gaps))
-    (low : MeetsNone 186 80 (filter is_free gaps)) (behind : 266 ≤ place) (t : ThreadsFreeChunks old gaps) where
+    (low : MeetsNone FREE_TABLE_PLACE FREE_TABLE_LENGTH (filter is_free gaps)) (behind : 266 ≤ place) (t : ThreadsFreeChunks old gaps) where
   list_apart : MeetsNone place n (flat (lists_of t))
   list_apart b from to = same_cover (flat (lists_of t)) (filter is_free gaps) (same_ranges old gaps t) b ∙ apart b from to
 
@@ -121,7 +123,7 @@ module _ (place n k : ℕ) (first : Option ℕ) (old new : List ℕ) (long : 32 
   reach : IsInReach (first_place (list_of t k)) → IsInReach first
   reach r = subst IsInReach (sym first_is) r
 
-  table_apart : MeetsNone 186 80 (flat (slice_set (lists_of t) k (chunk_at place n ∷ list_of t k)))
+  table_apart : MeetsNone FREE_TABLE_PLACE FREE_TABLE_LENGTH (flat (slice_set (lists_of t) k (chunk_at place n ∷ list_of t k)))
   table_apart b from to =
       let s = cover_set b (lists_of t) k (list_of t k) (chunk_at place n ∷ list_of t k) (list_is old gaps t k few) in
       let z : cover (flat (lists_of t)) b ≡ 0 = same_cover (flat (lists_of t)) (filter is_free gaps) (same_ranges old gaps t) b ∙ low b from to in
@@ -162,7 +164,7 @@ module _ (place n k : ℕ) (first : Option ℕ) (old new : List ℕ) (long : 32 
 
 -- ---- told of the bytes
 
-pub nowhere_threads : (image : Option (List ℕ)) (k : ℕ) → k < 3 → PointsNowhere image (190 + 24 * k) → ThreadsNone image
+pub nowhere_threads : (image : Option (List ℕ)) (k : ℕ) → k < 3 → PointsNowhere image (list_first FREE_TABLE_PLACE k).offset → ThreadsNone image
 nowhere_threads None k few nowhere = tt
 nowhere_threads (Some bytes) k few nowhere = λ gaps t. nowhere (first_place (list_of t k)) (link_says bytes gaps t k [] (list_of t k) None few refl refl)
 
@@ -172,11 +174,11 @@ gap_of_pushed place n k first old new long near few reach p = record {
   fills = λ short b low high. absurd (omega (arith, long, short));
 }
 
-pub pushed : (entry read whole linked new : Option (List ℕ)) (place n k : ℕ) (first : Option ℕ) → read ≡ entry → 32 ≤ n → place + n ≤ 2 ^ 44 → k < 3 → IsInReach first → Follows entry (190 + 24 * k) first → Both (WritesChunk place n first) read whole
-    → Both (Writes (190 + 24 * k) (pointer_text (To place))) whole linked → Both (EndsList k first (Some place)) linked new → Both (WritesGap place n) entry new
+pub pushed : (entry read whole linked new : Option (List ℕ)) (place n k : ℕ) (first : Option ℕ) → read ≡ entry → 32 ≤ n → place + n ≤ 2 ^ 44 → k < 3 → IsInReach first → Follows entry (list_first FREE_TABLE_PLACE k).offset first → Both (WritesChunk place n first) read whole
+    → Both (Writes (list_first FREE_TABLE_PLACE k).offset (pointer_text (To place))) whole linked → Both (EndsList k first (Some place)) linked new → Both (WritesGap place n) entry new
 pushed entry read whole linked new place n k first e long near few reach follows chunk link last = go entry whole linked new follows (subst (λ image. Both (WritesChunk place n first) image whole) e chunk) link last
   where
-    go : (entry whole linked new : Option (List ℕ)) → Follows entry (190 + 24 * k) first → Both (WritesChunk place n first) entry whole → Both (Writes (190 + 24 * k) (pointer_text (To place))) whole linked → Both (EndsList k first (Some place)) linked new
+    go : (entry whole linked new : Option (List ℕ)) → Follows entry (list_first FREE_TABLE_PLACE k).offset first → Both (WritesChunk place n first) entry whole → Both (Writes (list_first FREE_TABLE_PLACE k).offset (pointer_text (To place))) whole linked → Both (EndsList k first (Some place)) linked new
         → Both (WritesGap place n) entry new
     go None None None None f c l e = tt
     go None None None (Some d) f c l e = absurd e
@@ -205,8 +207,8 @@ gap_within place n b none = (none_holds free_table (range place n ∷ []) b none
 pub gap_changes : (place n : ℕ) (entry read new : Option (List ℕ)) → read ≡ entry → Both (ChangesOnly (range place n ∷ [])) read new → Both (ChangesOnly (free_table ∷ range place n ∷ [])) entry new
 gap_changes place n entry read new e c = subst (λ image. Both (ChangesOnly (free_table ∷ range place n ∷ [])) image new) e (widened (range place n ∷ []) (free_table ∷ range place n ∷ []) read new (gap_within place n) c)
 
-pub link_then : (place n k : ℕ) (a b c : Option (List ℕ)) → k < 3 → Both (ChangesOnly (free_table ∷ range place n ∷ [])) a b → Both (ChangesOnly (range (190 + 24 * k) 12 ∷ [])) b c → Both (ChangesOnly (free_table ∷ range place n ∷ [])) a c
-link_then place n k a b c few v w = changes_then (free_table ∷ range place n ∷ []) a b c v (widened (range (190 + 24 * k) 12 ∷ []) (free_table ∷ range place n ∷ []) b c (one_within (190 + 24 * k) 12 free_table (range place n ∷ []) (omega arith) (omega (arith, few))) w)
+pub link_then : (place n k : ℕ) (a b c : Option (List ℕ)) → k < 3 → Both (ChangesOnly (free_table ∷ range place n ∷ [])) a b → Both (ChangesOnly (range (list_first FREE_TABLE_PLACE k).offset 12 ∷ [])) b c → Both (ChangesOnly (free_table ∷ range place n ∷ [])) a c
+link_then place n k a b c few v w = changes_then (free_table ∷ range place n ∷ []) a b c v (widened (range (list_first FREE_TABLE_PLACE k).offset 12 ∷ []) (free_table ∷ range place n ∷ []) b c (one_within (list_first FREE_TABLE_PLACE k).offset 12 free_table (range place n ∷ []) (omega arith) (omega (arith, few))) w)
 
 -- ---- a filler
 
@@ -260,7 +262,7 @@ pub chunk_done : (place n : ℕ) (next : Option ℕ) (text closing : List ℕ) (
 chunk_done place n next text closing p q old middle new e f g w c v =
     chunk_is_written place n next old middle new (subst (λ xs. Both (Writes place xs) old middle) (e ∙ ap (λ x. free_head_text x q) f ∙ ap (free_head_text (To (place + n - 4))) g) w) (subst (λ xs. Both (Writes (place + n - 4) xs) middle new) c v)
 
-pub push_done : (entry read whole linked new : Option (List ℕ)) (place n k at : ℕ) (first : Option ℕ) → at ≡ 190 + 24 * k → read ≡ entry → 32 ≤ n → place + n ≤ 2 ^ 44 → k < 3 → IsInReach first → Follows entry (190 + 24 * k) first
+pub push_done : (entry read whole linked new : Option (List ℕ)) (place n k at : ℕ) (first : Option ℕ) → at ≡ (list_first FREE_TABLE_PLACE k).offset → read ≡ entry → 32 ≤ n → place + n ≤ 2 ^ 44 → k < 3 → IsInReach first → Follows entry (list_first FREE_TABLE_PLACE k).offset first
     → Both (WritesChunk place n first) read whole → Both (Writes at (pointer_text (To place))) whole linked → Both (EndsList k first (Some place)) linked new → Both (WritesGap place n) entry new
 push_done entry read whole linked new place n k at first here e long near few reach follows chunk link last =
     pushed entry read whole linked new place n k first e long near few reach follows chunk (subst (λ a. Both (Writes a (pointer_text (To place))) whole linked) here link) last

@@ -7,6 +7,7 @@ use Rattle.adf_format.specs.declared.types.ExtentKind.{ExtentKind}
 use Rattle.adf_format.specs.Tiles.{cover, is_free, is_filler, is_free_kind, is_filler_kind}
 use Rattle.adf_format.specs.LaysOut.{count_of, HasSameRanges}
 use Rattle.adf_format.proofs.HeapLaws.{in_range}
+use Rattle.adf_format.proofs.BehindEnd.{counts_itself}
 
 -- ---- weights
 
@@ -67,13 +68,6 @@ test_tells a b c d e = by_first (a == b) refl e
 
 pub test_holds : (a b c d : ℕ) → a ≡ b → c ≡ d → ((a == b) && (c == d)) ≡ true
 test_holds a b c d p q = let s : (a == b) ≡ true = grind (arith, nat_tests) in let t : (c == d) ≡ true = grind (arith, nat_tests) in rw (s, t)
-
-pub counts_itself : (e : Extent) (es : List Extent) → 0 < count_of e.place e.length (e ∷ es)
-counts_itself e es = let t = test_holds e.place e.place e.length e.length refl refl in plain (count_of e.place e.length es) ((e.place == e.place) && (e.length == e.length)) t
-  where
-    plain : (k : ℕ) (t : Bool) → t ≡ true → 0 < cond t 1 0 + k
-    plain k true p = omega arith
-    plain k false p = cc
 
 pub pick : (place n : ℕ) (xs : List Extent) → 0 < count_of place n xs → IsPicked place n xs
 pick place n [] some = absurd (omega (arith, some))

@@ -4,6 +4,8 @@ use Rattle.std.proofs.lemmas.Bool.Decides.{nat_tests, leb_tells}
 use Rattle.std.proofs.lemmas.Option.{slice_get-get_or}
 use Rattle.std.specs.Prelude.{Option, Some, None, IfSome, slice_get, remove, ◌&&◌, nat_lt, nat_le}
 use Rattle.cg_io.specs.Blocks.{Both}
+use Rattle.adf_format.specs.declared.fields.TheConstants.{HEADER_END, FREE_TABLE_PLACE, FREE_TABLE_LENGTH}
+use Rattle.adf_format.specs.RecordFields.{field_in}
 use Rattle.adf_format.specs.declared.types.Extent.{Extent}
 use Rattle.adf_format.specs.declared.types.ExtentKind.{ExtentKind}
 use Rattle.adf_format.specs.Fields.{field}
@@ -31,27 +33,27 @@ use Rattle.file_heap.proofs.HeapFacts.{gaps_apart, free_cut, filler_cut, filler_
 
 -- ---- the end pointer
 
-module _ (last : ℕ) (old new : List ℕ) (w : Writes 146 (pointer_text (To last)) old new) where
+module _ (last : ℕ) (old new : List ℕ) (w : Writes HEADER_END.offset (pointer_text (To last)) old new) where
   twelve : length (pointer_text (To last)) ≡ 12
   twelve = length-pointer_text (To last)
 
   end_threads : KeepsThreads old new
   end_threads gaps apart t =
-      let none : MeetsNone 146 12 (flat (lists_of t)) = λ b low high. (let l = lists_cover old gaps t b in let z = apart.low b (omega (arith, high)) in omega (arith, l, z)) in
+      let none : MeetsNone HEADER_END.offset HEADER_END.length (flat (lists_of t)) = λ b low high. (let l = lists_cover old gaps t b in let z = apart.low b (omega (arith, high)) in omega (arith, l, z)) in
       of_threading new gaps (lists_of t) refl
-      (threading_beside 146 (pointer_text (To last)) old new (all_ends t) (lists_of t) w (omega (arith, twelve)) (inl (omega (arith, twelve))) (subst (λ n. MeetsNone 146 n (flat (lists_of t))) (sym twelve) none) (threading old gaps t))
+      (threading_beside HEADER_END.offset (pointer_text (To last)) old new (all_ends t) (lists_of t) w (omega (arith, twelve)) (inl (omega (arith, twelve))) (subst (λ n. MeetsNone HEADER_END.offset n (flat (lists_of t))) (sym twelve) none) (threading old gaps t))
       (same_ranges old gaps t)
 
-  end_named : last < 2 ^ 44 → PointsTo (field new 146 12) last
-  end_named near = ap pointer (ap (field new 146) (sym twelve) ∙ w.stands) ∙ pointer-pointer_text last near
+  end_named : last < 2 ^ 44 → PointsTo (field_in new HEADER_END) last
+  end_named near = ap pointer (ap (field new HEADER_END.offset) (sym twelve) ∙ w.stands) ∙ pointer-pointer_text last near
 
-pub grown_threads : (last : ℕ) (old new : Option (List ℕ)) → Both (Writes 146 (pointer_text (To last))) old new → Both KeepsThreads old new
+pub grown_threads : (last : ℕ) (old new : Option (List ℕ)) → Both (Writes HEADER_END.offset (pointer_text (To last))) old new → Both KeepsThreads old new
 grown_threads last None None w = tt
 grown_threads last None (Some new) w = w
 grown_threads last (Some old) None w = w
 grown_threads last (Some old) (Some new) w = end_threads last old new w
 
-pub grown_end : (end last : ℕ) (old new : Option (List ℕ)) → last < 2 ^ 44 → Both (Writes 146 (pointer_text (To last))) old new → Both (MovesEnd end last) old new
+pub grown_end : (end last : ℕ) (old new : Option (List ℕ)) → last < 2 ^ 44 → Both (Writes HEADER_END.offset (pointer_text (To last))) old new → Both (MovesEnd end last) old new
 grown_end end last None None near w = tt
 grown_end end last None (Some new) near w = w
 grown_end end last (Some old) None near w = w
@@ -68,12 +70,12 @@ same_byte : (xs : List Extent) (old new : List ℕ) (b : ℕ) → ChangesOnly xs
 same_byte xs old new b c lt none =
     let long = c.longer in slice_get-get_or new b 0 (omega (arith, long, lt)) ∙ ap (λ x. Some x) (c.others b none) ∙ sym (slice_get-get_or old b 0 lt)
 
-end_stays_told : (xs gaps : List Extent) (end : ℕ) (old new : List ℕ) → MeetsNone 146 12 xs → ThreadsFreeChunks old gaps → ChangesOnly xs old new → MovesEnd end end old new
+end_stays_told : (xs gaps : List Extent) (end : ℕ) (old new : List ℕ) → MeetsNone HEADER_END.offset HEADER_END.length xs → ThreadsFreeChunks old gaps → ChangesOnly xs old new → MovesEnd end end old new
 end_stays_told xs gaps end old new apart t c was =
     let long = table_within old (all_ends t) t.table in
-    ap pointer (field_kept 12 146 old new (λ b low high. same_byte xs old new b c (omega (arith, long, high)) (apart b low high))) ∙ was
+    ap pointer (field_kept HEADER_END.length HEADER_END.offset old new (λ b low high. same_byte xs old new b c (omega (arith, long, high)) (apart b low high))) ∙ was
 
-pub end_stays : (xs gaps : List Extent) (end : ℕ) (old new : Option (List ℕ)) → MeetsNone 146 12 xs → IfSome old (λ bytes. ThreadsFreeChunks bytes gaps) → Both (ChangesOnly xs) old new → Both (MovesEnd end end) old new
+pub end_stays : (xs gaps : List Extent) (end : ℕ) (old new : Option (List ℕ)) → MeetsNone HEADER_END.offset HEADER_END.length xs → IfSome old (λ bytes. ThreadsFreeChunks bytes gaps) → Both (ChangesOnly xs) old new → Both (MovesEnd end end) old new
 end_stays xs gaps end None None apart t c = tt
 end_stays xs gaps end None (Some new) apart t c = c
 end_stays xs gaps end (Some old) None apart t c = c
@@ -87,7 +89,7 @@ same_threads bytes xs ys same t = record { small = t.small; medium = t.medium; l
 free_of_gaps : (gaps : List Extent) (place n : ℕ) → MeetsNone place n gaps → MeetsNone place n (filter is_free gaps)
 free_of_gaps gaps place n none b low high = let k = cover_kinds b gaps in let z = none b low high in omega (arith, k, z)
 
-low_apart : (gaps : List Extent) → AreGaps gaps → MeetsNone 186 80 gaps
+low_apart : (gaps : List Extent) → AreGaps gaps → MeetsNone FREE_TABLE_PLACE FREE_TABLE_LENGTH gaps
 low_apart gaps g b low high = (gaps_apart gaps g).low b (omega (arith, high))
 
 -- the free chunks but one
@@ -109,7 +111,7 @@ module _ (gaps : List Extent) (i n : ℕ) (g : AreGaps gaps) (fit : IsFirstFit n
       let h : in_range (gap_at gaps i).place (gap_at gaps i).length b ≡ 1 = inner_range (gap_at gaps i).place n (gap_at gaps i).length b fit.fits low high in
       let s = cover_removed gaps i b fit.within fit.free in let o = once_free b in omega (arith, h, s, o)
 
-  low_removed : MeetsNone 186 80 (filter is_free (remove gaps i))
+  low_removed : MeetsNone FREE_TABLE_PLACE FREE_TABLE_LENGTH (filter is_free (remove gaps i))
   low_removed b low high =
       let z = (gaps_apart gaps g).low b (omega (arith, high)) in let k = cover_kinds b gaps in let s = cover_removed gaps i b fit.within fit.free in omega (arith, z, k, s)
 
@@ -270,7 +272,7 @@ give_threads gaps place n None (Some c) g none low t w = absurd w
 give_threads gaps place n (Some a) None g none low t w = absurd w
 give_threads gaps place n (Some a) (Some c) g none low t w =
     same_threads c (new_gap place n ∷ gaps) (give_alone place n gaps) (λ q m. sym (free_put q m (new_gap place n) gaps))
-    (w.threads gaps (free_of_gaps gaps place n none) (free_of_gaps gaps 186 80 (low_apart gaps g)) low t)
+    (w.threads gaps (free_of_gaps gaps place n none) (free_of_gaps gaps FREE_TABLE_PLACE FREE_TABLE_LENGTH (low_apart gaps g)) low t)
 
 -- bytes beside the free table and the free chunks stay
 pub fillers_stay : (xs gaps : List Extent) (a c : Option (List ℕ)) → AreGaps gaps → ((b : ℕ) → 266 ≤ b → cover xs b ≡ 0) → Both (ChangesOnly xs) a c → Both (KeepsFillers gaps gaps) a c

@@ -1,6 +1,8 @@
 -- The ends of the lists in the free table, and the lists after a write of one of them.
 use Rattle.std.proofs.Common.{◌≡◌, ◌⊎◌, inl, inr, ℕ, zero, suc, refl, sym, ◌∙◌, ap, subst, arith, List, [], ◌∷◌, ◌++◌, length, map, filter, ◌+◌, ◌*◌, ◌<◌, ◌≤◌}
 use Rattle.std.specs.Prelude.{Option, Some, None, slice_get, slice_set}
+use Rattle.adf_format.specs.declared.fields.TheConstants.{FREE_TABLE_PLACE, FREE_TABLE_LENGTH}
+use Rattle.adf_format.specs.RecordFields.{list_first, list_last}
 use Rattle.adf_format.specs.declared.types.Extent.{Extent}
 use Rattle.adf_format.specs.Fields.{field}
 use Rattle.adf_format.specs.Pointer.{pointer, pointer_text}
@@ -48,48 +50,48 @@ length_lists (l ∷ ls) (suc k) fs = ap suc (length_lists ls k fs)
 
 -- ---- one pointer of the table
 
-module _ (k : ℕ) (few : k < 3) (p : Option ℕ) (reach : IsInReach p) (old new : List ℕ) (ends : List Ends) (lists : List (List Extent)) (a z : Option ℕ) (here : slice_get ends k ≡ Some (a, z)) (none : MeetsNone 186 80 (flat lists)) where
+module _ (k : ℕ) (few : k < 3) (p : Option ℕ) (reach : IsInReach p) (old new : List ℕ) (ends : List Ends) (lists : List (List Extent)) (a z : Option ℕ) (here : slice_get ends k ≡ Some (a, z)) (none : MeetsNone FREE_TABLE_PLACE FREE_TABLE_LENGTH (flat lists)) where
   twelve : length (pointer_text (pointer_to p)) ≡ 12
   twelve = length-pointer_text (pointer_to p)
 
-  written : (at o : ℕ) → at ≡ 186 + o → o + 12 ≤ 80 → Writes at (pointer_text (pointer_to p)) old new → HasPointer (field new 186 80) o p
-  written at o e le w = says_pointer p (field new 186 80) o reach
-      (inner_field new 186 80 o 12 le ∙ ap (λ b. field new b 12) (sym e) ∙ ap (field new at) (sym twelve) ∙ w.stands)
+  written : (at o : ℕ) → at ≡ FREE_TABLE_PLACE + o → o + 12 ≤ 80 → Writes at (pointer_text (pointer_to p)) old new → HasPointer (field new FREE_TABLE_PLACE FREE_TABLE_LENGTH) o p
+  written at o e le w = says_pointer p (field new FREE_TABLE_PLACE FREE_TABLE_LENGTH) o reach
+      (inner_field new FREE_TABLE_PLACE FREE_TABLE_LENGTH o 12 le ∙ ap (λ b. field new b 12) (sym e) ∙ ap (field new at) (sym twelve) ∙ w.stands)
 
-  kept : (at o : ℕ) (q : Option ℕ) → Writes at (pointer_text (pointer_to p)) old new → 266 ≤ length old → o + 12 ≤ 80 → (186 + o + 12 ≤ at) ⊎ (at + 12 ≤ 186 + o) → HasPointer (field old 186 80) o q → HasPointer (field new 186 80) o q
+  kept : (at o : ℕ) (q : Option ℕ) → Writes at (pointer_text (pointer_to p)) old new → 266 ≤ length old → o + 12 ≤ 80 → (FREE_TABLE_PLACE + o + 12 ≤ at) ⊎ (at + 12 ≤ FREE_TABLE_PLACE + o) → HasPointer (field old FREE_TABLE_PLACE FREE_TABLE_LENGTH) o q → HasPointer (field new FREE_TABLE_PLACE FREE_TABLE_LENGTH) o q
   kept at o q w long le apart h = by_place q h
     where
-      same : field (field new 186 80) o 12 ≡ field (field old 186 80) o 12
-      same = inner_field new 186 80 o 12 le ∙ field_beside at (pointer_text (pointer_to p)) old new w (186 + o) 12 (omega (arith, long, le)) (side apart) ∙ sym (inner_field old 186 80 o 12 le)
+      same : field (field new FREE_TABLE_PLACE FREE_TABLE_LENGTH) o 12 ≡ field (field old FREE_TABLE_PLACE FREE_TABLE_LENGTH) o 12
+      same = inner_field new FREE_TABLE_PLACE FREE_TABLE_LENGTH o 12 le ∙ field_beside at (pointer_text (pointer_to p)) old new w (FREE_TABLE_PLACE + o) 12 (omega (arith, long, le)) (side apart) ∙ sym (inner_field old FREE_TABLE_PLACE FREE_TABLE_LENGTH o 12 le)
         where
-          side : (186 + o + 12 ≤ at) ⊎ (at + 12 ≤ 186 + o) → (186 + o + 12 ≤ at) ⊎ (at + length (pointer_text (pointer_to p)) ≤ 186 + o)
+          side : (FREE_TABLE_PLACE + o + 12 ≤ at) ⊎ (at + 12 ≤ FREE_TABLE_PLACE + o) → (FREE_TABLE_PLACE + o + 12 ≤ at) ⊎ (at + length (pointer_text (pointer_to p)) ≤ FREE_TABLE_PLACE + o)
           side (inl h) = inl h
           side (inr h) = inr (omega (arith, h, twelve))
 
-      by_place : (q : Option ℕ) → HasPointer (field old 186 80) o q → HasPointer (field new 186 80) o q
+      by_place : (q : Option ℕ) → HasPointer (field old FREE_TABLE_PLACE FREE_TABLE_LENGTH) o q → HasPointer (field new FREE_TABLE_PLACE FREE_TABLE_LENGTH) o q
       by_place None h = ap pointer same ∙ h
       by_place (Some place) h = ap pointer same ∙ h
 
-  pub first_written : Writes (190 + 24 * k) (pointer_text (pointer_to p)) old new → Threading old ends lists → Threading new (slice_set ends k (p, z)) lists
+  pub first_written : Writes (list_first FREE_TABLE_PLACE k).offset (pointer_text (pointer_to p)) old new → Threading old ends lists → Threading new (slice_set ends k (p, z)) lists
   first_written w t =
       let said = t.table.lists k (a, z) here in
-      threading_ends (190 + 24 * k) (pointer_text (pointer_to p)) old new ends lists k (p, z) w twelve few (omega arith) (omega (arith, twelve)) none
-      (written (190 + 24 * k) (4 + 24 * k) (omega arith) (omega (arith, few)) w)
-      (kept (190 + 24 * k) (16 + 24 * k) z w (table_within old ends t.table) (omega (arith, few)) (inr (omega arith)) said.1) t
+      threading_ends (list_first FREE_TABLE_PLACE k).offset (pointer_text (pointer_to p)) old new ends lists k (p, z) w twelve few (omega arith) (omega (arith, twelve)) none
+      (written (list_first FREE_TABLE_PLACE k).offset (4 + 24 * k) (omega arith) (omega (arith, few)) w)
+      (kept (list_first FREE_TABLE_PLACE k).offset (16 + 24 * k) z w (table_within old ends t.table) (omega (arith, few)) (inr (omega arith)) said.1) t
 
-  pub last_written : Writes (202 + 24 * k) (pointer_text (pointer_to p)) old new → Threading old ends lists → Threading new (slice_set ends k (a, p)) lists
+  pub last_written : Writes (list_last FREE_TABLE_PLACE k).offset (pointer_text (pointer_to p)) old new → Threading old ends lists → Threading new (slice_set ends k (a, p)) lists
   last_written w t =
       let said = t.table.lists k (a, z) here in
-      threading_ends (202 + 24 * k) (pointer_text (pointer_to p)) old new ends lists k (a, p) w twelve few (omega arith) (omega (arith, twelve)) none
-      (kept (202 + 24 * k) (4 + 24 * k) a w (table_within old ends t.table) (omega (arith, few)) (inl (omega arith)) said.0)
-      (written (202 + 24 * k) (16 + 24 * k) (omega arith) (omega (arith, few)) w) t
+      threading_ends (list_last FREE_TABLE_PLACE k).offset (pointer_text (pointer_to p)) old new ends lists k (a, p) w twelve few (omega arith) (omega (arith, twelve)) none
+      (kept (list_last FREE_TABLE_PLACE k).offset (4 + 24 * k) a w (table_within old ends t.table) (omega (arith, few)) (inl (omega arith)) said.0)
+      (written (list_last FREE_TABLE_PLACE k).offset (16 + 24 * k) (omega arith) (omega (arith, few)) w) t
 
 -- the last of a list, where it is written over if nothing is behind
 abbrev pub last_after : Option ℕ → Option ℕ → Option ℕ → Option ℕ
 last_after None last was = last
 last_after (Some next) last was = was
 
-pub end_written : (k : ℕ) (behind last : Option ℕ) (old new : List ℕ) (ends : List Ends) (lists : List (List Extent)) (a z : Option ℕ) → k < 3 → IsInReach last → slice_get ends k ≡ Some (a, z) → MeetsNone 186 80 (flat lists)
+pub end_written : (k : ℕ) (behind last : Option ℕ) (old new : List ℕ) (ends : List Ends) (lists : List (List Extent)) (a z : Option ℕ) → k < 3 → IsInReach last → slice_get ends k ≡ Some (a, z) → MeetsNone FREE_TABLE_PLACE FREE_TABLE_LENGTH (flat lists)
     → EndsList k behind last old new → Threading old ends lists → Threading new (slice_set ends k (a, last_after behind last z)) lists
 end_written k None last old new ends lists a z few reach here none w t = last_written k few last reach old new ends lists a z here none w t
 end_written k (Some next) last old new ends lists a z few reach here none e t =

@@ -2,6 +2,7 @@
 use Rattle.std.proofs.Common.{◌≡◌, ◌≢◌, ◌⊎◌, inl, inr, ℕ, zero, suc, refl, sym, ◌∙◌, ap, subst, arith, List, [], ◌∷◌, ◌++◌, length, ◌+◌, ◌-◌, ◌*◌, ◌<◌, ◌≤◌, min, false}
 use Rattle.std.proofs.lemmas.Bool.Decides.{nat_tests, leb_tells, eqb_tells}
 use Rattle.std.specs.Prelude.{Option, Some, slice_get, slice_set}
+use Rattle.adf_format.specs.declared.fields.TheConstants.{FREE_TABLE_PLACE, FREE_TABLE_LENGTH}
 use Rattle.adf_format.specs.declared.types.Extent.{Extent}
 use Rattle.adf_format.specs.Fields.{field}
 use Rattle.adf_format.specs.Pointer.{pointer_text}
@@ -35,11 +36,11 @@ free_within bytes place size next s =
     omega (arith, long, four, inner, outer)
 
 -- the free table too
-pub table_within : (bytes : List ℕ) (ends : List (Option ℕ × Option ℕ)) → SpellsFreeTable (field bytes 186 80) ends → 266 ≤ length bytes
+pub table_within : (bytes : List ℕ) (ends : List (Option ℕ × Option ℕ)) → SpellsFreeTable (field bytes FREE_TABLE_PLACE FREE_TABLE_LENGTH) ends → 266 ≤ length bytes
 table_within bytes ends t =
-    let four : length (field (field bytes 186 80) 76 4) ≡ 4 = ap length t.end_tag in
-    let inner : length (field (field bytes 186 80) 76 4) ≡ min 4 (length (field bytes 186 80) - 76) = length-field (field bytes 186 80) 76 4 in
-    let outer : length (field bytes 186 80) ≡ min 80 (length bytes - 186) = length-field bytes 186 80 in
+    let four : length (field (field bytes FREE_TABLE_PLACE FREE_TABLE_LENGTH) 76 4) ≡ 4 = ap length t.end_tag in
+    let inner : length (field (field bytes FREE_TABLE_PLACE FREE_TABLE_LENGTH) 76 4) ≡ min 4 (length (field bytes FREE_TABLE_PLACE FREE_TABLE_LENGTH) - 76) = length-field (field bytes FREE_TABLE_PLACE FREE_TABLE_LENGTH) 76 4 in
+    let outer : length (field bytes FREE_TABLE_PLACE FREE_TABLE_LENGTH) ≡ min 80 (length bytes - FREE_TABLE_PLACE) = length-field bytes FREE_TABLE_PLACE FREE_TABLE_LENGTH in
     omega (arith, four, inner, outer)
 
 -- ---- a write beside a chunk or a list
@@ -114,7 +115,7 @@ threads_behind bytes (b ∷ bs) after t = threads_behind bytes bs after t.1
 
 -- the free table says the ends, and each list is threaded
 pub record Threading (bytes : List ℕ) (ends : List (Option ℕ × Option ℕ)) (lists : List (List Extent)) : Type 0 where
-  pub table : SpellsFreeTable (field bytes 186 80) ends
+  pub table : SpellsFreeTable (field bytes FREE_TABLE_PLACE FREE_TABLE_LENGTH) ends
   pub each : (k : ℕ) (fs : List Extent) → slice_get lists k ≡ Some fs → IsThreaded bytes fs
 
 list_meets : (place n : ℕ) (lists : List (List Extent)) (k : ℕ) (fs : List Extent) → slice_get lists k ≡ Some fs → MeetsNone place n (flat lists) → MeetsNone place n fs
@@ -135,14 +136,14 @@ get_other (l ∷ ls) (suc k) zero xs ne = refl
 get_other (l ∷ ls) (suc k) (suc j) xs ne = get_other ls k j xs (λ h. ne (ap suc h))
 
 -- a write apart from the chunks and the free table leaves all lists
-pub threading_beside : (at : ℕ) (text old new : List ℕ) (ends : List (Option ℕ × Option ℕ)) (lists : List (List Extent)) → Writes at text old new → 0 < length text → (at + length text ≤ 186) ⊎ (266 ≤ at)
+pub threading_beside : (at : ℕ) (text old new : List ℕ) (ends : List (Option ℕ × Option ℕ)) (lists : List (List Extent)) → Writes at text old new → 0 < length text → (at + length text ≤ FREE_TABLE_PLACE) ⊎ (266 ≤ at)
     → MeetsNone at (length text) (flat lists) → Threading old ends lists → Threading new ends lists
 threading_beside at text old new ends lists w some apart none t = record {
-  table = subst (λ bytes. SpellsFreeTable bytes ends) (sym (field_beside at text old new w 186 80 (let le = table_within old ends t.table in omega (arith, le)) (side apart))) t.table;
+  table = subst (λ bytes. SpellsFreeTable bytes ends) (sym (field_beside at text old new w FREE_TABLE_PLACE FREE_TABLE_LENGTH (let le = table_within old ends t.table in omega (arith, le)) (side apart))) t.table;
   each = λ k fs e. threads_beside at text old new w some fs (list_meets at (length text) lists k fs e none) (t.each k fs e);
 }
   where
-    side : (at + length text ≤ 186) ⊎ (266 ≤ at) → (186 + 80 ≤ at) ⊎ (at + length text ≤ 186)
+    side : (at + length text ≤ FREE_TABLE_PLACE) ⊎ (266 ≤ at) → (FREE_TABLE_PLACE + 80 ≤ at) ⊎ (at + length text ≤ FREE_TABLE_PLACE)
     side (inl h) = inr h
     side (inr h) = inl (omega (arith, h))
 
@@ -155,11 +156,11 @@ threading_set bytes ends lists k xs x t = record {
 
 -- the two ends of a list in the free table
 pub threading_ends : (at : ℕ) (text old new : List ℕ) (ends : List (Option ℕ × Option ℕ)) (lists : List (List Extent)) (k : ℕ) (e : Option ℕ × Option ℕ) → Writes at text old new → length text ≡ 12 → k < 3
-    → 190 + 24 * k ≤ at → at + length text ≤ 214 + 24 * k → MeetsNone 186 80 (flat lists)
-    → HasPointer (field new 186 80) (4 + 24 * k) e.0 → HasPointer (field new 186 80) (16 + 24 * k) e.1 → Threading old ends lists → Threading new (slice_set ends k e) lists
+    → 190 + 24 * k ≤ at → at + length text ≤ 214 + 24 * k → MeetsNone FREE_TABLE_PLACE FREE_TABLE_LENGTH (flat lists)
+    → HasPointer (field new FREE_TABLE_PLACE FREE_TABLE_LENGTH) (4 + 24 * k) e.0 → HasPointer (field new FREE_TABLE_PLACE FREE_TABLE_LENGTH) (16 + 24 * k) e.1 → Threading old ends lists → Threading new (slice_set ends k e) lists
 threading_ends at text old new ends lists k e w twelve few low high none first last t = record {
   table = ends_written ends k at e text old new few low high (table_within old ends t.table) w first last t.table;
-  each = λ j fs i. threads_beside at text old new w (omega (arith, twelve)) fs (λ b from to. list_meets 186 80 lists j fs i none b (omega (arith, low, from)) (omega (arith, high, few, to))) (t.each j fs i);
+  each = λ j fs i. threads_beside at text old new w (omega (arith, twelve)) fs (λ b from to. list_meets FREE_TABLE_PLACE FREE_TABLE_LENGTH lists j fs i none b (omega (arith, low, from)) (omega (arith, high, few, to))) (t.each j fs i);
 }
 
 -- the pointer to the chunk behind f
@@ -167,7 +168,7 @@ pub threading_next : (old new : List ℕ) (ends : List (Option ℕ × Option ℕ
     → ((b : ℕ) → cover (flat lists) b ≤ 1) → 266 ≤ f.place → IsInReach (first_place after) → slice_get lists k ≡ Some (before ++ f ∷ g ∷ after)
     → Writes (f.place + 16) (pointer_text (pointer_to (first_place after))) old new → Threading old ends lists → Threading new ends (slice_set lists k (before ++ f ∷ after))
 threading_next old new ends lists k before f g after once behind reach at w t = record {
-  table = subst (λ bytes. SpellsFreeTable bytes ends) (sym (field_beside (f.place + 16) (pointer_text (pointer_to (first_place after))) old new w 186 80 (let le = table_within old ends t.table in omega (arith, le)) (inl (omega (arith, behind))))) t.table;
+  table = subst (λ bytes. SpellsFreeTable bytes ends) (sym (field_beside (f.place + 16) (pointer_text (pointer_to (first_place after))) old new w FREE_TABLE_PLACE FREE_TABLE_LENGTH (let le = table_within old ends t.table in omega (arith, le)) (inl (omega (arith, behind))))) t.table;
   each = λ j fs i. elim (get_set lists k j (before ++ f ∷ after) fs i) [
     | inl r ↦ subst (IsThreaded new) r.1 here
     | inr r ↦ threads_beside (f.place + 16) (pointer_text (pointer_to (first_place after))) old new w (omega (arith, twelve)) fs (subst (λ n. MeetsNone (f.place + 16) n fs) (sym twelve) (others j fs r.0 r.1)) (t.each j fs r.1)

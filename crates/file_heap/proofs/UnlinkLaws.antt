@@ -1,7 +1,9 @@
 -- A free chunk is taken out of its list.
-use Rattle.std.proofs.Common.{◌≡◌, ℕ, zero, suc, refl, sym, ◌∙◌, ap, subst, arith, List, [], ◌∷◌, ◌++◌, length, append_assoc, filter, ◌+◌, ◌*◌, ◌<◌, ◌≤◌, ◌^◌, Bool, true, false, cond}
+use Rattle.std.proofs.Common.{◌≡◌, ℕ, zero, suc, refl, sym, ◌∙◌, ap, subst, arith, List, [], ◌∷◌, ◌++◌, length, append_assoc, filter, ◌+◌, ◌<◌, ◌≤◌, ◌^◌, Bool, true, false, cond}
 use Rattle.std.specs.Prelude.{Option, Some, None, IfSome, slice_get, slice_set, remove}
 use Rattle.cg_io.specs.Blocks.{Both}
+use Rattle.adf_format.specs.declared.fields.TheConstants.{FREE_TABLE_PLACE, FREE_TABLE_LENGTH}
+use Rattle.adf_format.specs.RecordFields.{list_first}
 use Rattle.adf_format.specs.declared.types.Extent.{Extent}
 use Rattle.adf_format.specs.Pointer.{pointer_text}
 use Rattle.adf_format.specs.Spelled.{pointer_to}
@@ -52,7 +54,7 @@ module _ (old : List ℕ) (gaps : List Extent) (i : ℕ) (t : ThreadsFreeChunks 
   once : (b : ℕ) → cover (flat (lists_of t)) b ≤ 1
   once b = let s = lists_cover old gaps t b in let o = apart.once b in omega (arith, s, o)
 
-  table_apart : MeetsNone 186 80 (flat (slice_set (lists_of t) k (before ++ after)))
+  table_apart : MeetsNone FREE_TABLE_PLACE FREE_TABLE_LENGTH (flat (slice_set (lists_of t) k (before ++ after)))
   table_apart b low high =
       let s = cover_set b (lists_of t) k (list_of t k) (before ++ after) (list_is old gaps t k few) in
       let w : cover (list_of t k) b ≡ in_range c.place c.length b + cover (before ++ after) b = ap (λ xs. cover xs b) is ∙ cover_without b before c after in
@@ -102,7 +104,7 @@ module _ (old : List ℕ) (gaps : List Extent) (i : ℕ) (t : ThreadsFreeChunks 
   ends_is = ends_are old gaps t k few ∙ ap (λ xs. Some (ends_of xs)) is
 
   -- the first of the list
-  pub first_unlinked : (middle new : List ℕ) → before ≡ [] → Writes (190 + 24 * k) (pointer_text (pointer_to (first_place after))) old middle → EndsList k (first_place after) None middle new → ThreadsFreeChunks new (remove gaps i)
+  pub first_unlinked : (middle new : List ℕ) → before ≡ [] → Writes (list_first FREE_TABLE_PLACE k).offset (pointer_text (pointer_to (first_place after))) old middle → EndsList k (first_place after) None middle new → ThreadsFreeChunks new (remove gaps i)
   first_unlinked middle new none w e =
       let reach = first_in_reach old gaps t apart k (before ++ c ∷ []) after few (is ∙ sym (append_assoc before (c ∷ []) after)) in
       let rest : IsThreaded old (before ++ after) = subst (λ xs. IsThreaded old (xs ++ after)) (sym none) (threads_behind old (before ++ c ∷ []) after (subst (IsThreaded old) (is ∙ sym (append_assoc before (c ∷ []) after)) (list_threaded old gaps t k few))) in

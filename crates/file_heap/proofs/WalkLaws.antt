@@ -2,6 +2,8 @@
 use Rattle.std.proofs.Common.{◌≡◌, ◌≢◌, ◌⊎◌, inl, inr, ℕ, zero, suc, refl, sym, ◌∙◌, ap, subst, arith, List, [], ◌∷◌, ◌++◌, length, append_assoc, length-append, filter, ◌+◌, ◌-◌, ◌*◌, ◌<◌, ◌≤◌, ◌^◌, Bool, true, false, cond}
 use Rattle.std.proofs.lemmas.Bool.Decides.{nat_tests, leb_tells, eqb_tells}
 use Rattle.std.specs.Prelude.{nat_le, Option, Some, None, IfSome, slice_get, ◌==◌, ◌&&◌}
+use Rattle.adf_format.specs.declared.fields.TheConstants.{FREE_TABLE_PLACE, FREE_TABLE_LENGTH}
+use Rattle.adf_format.specs.RecordFields.{list_first}
 use Rattle.adf_format.specs.declared.types.Extent.{Extent}
 use Rattle.adf_format.specs.Fields.{field}
 use Rattle.adf_format.specs.Pointer.{pointer}
@@ -142,15 +144,15 @@ module _ (bytes : List ℕ) (gaps : List Extent) (t : ThreadsFreeChunks bytes ga
   link_says k before after None lt is e =
       let none : before ≡ [] = ends_nowhere before e in
       let first : list_of t k ≡ after = is ∙ ap (λ xs. xs ++ after) none in
-      let said : HasPointer (field bytes 186 80) (4 + 24 * k) (first_place (list_of t k)) = (t.table.lists k (ends_of (list_of t k)) (ends_are bytes gaps t k lt)).0 in
+      let said : HasPointer (field bytes FREE_TABLE_PLACE FREE_TABLE_LENGTH) (4 + 24 * k) (first_place (list_of t k)) = (t.table.lists k (ends_of (list_of t k)) (ends_are bytes gaps t k lt)).0 in
       let within = table_within bytes (all_ends t) t.table in
       record {
         within = omega (arith, within, lt);
-        says = subst (λ xs. HasPointer bytes (190 + 24 * k) (first_place xs)) first
-            (has_pointer bytes (field bytes 186 80) (190 + 24 * k) (4 + 24 * k) (first_place (list_of t k)) (ap (λ o. field bytes o 12) (shift k) ∙ sym (inner_field bytes 186 80 (4 + 24 * k) 12 (omega (arith, lt)))) said);
+        says = subst (λ xs. HasPointer bytes (list_first FREE_TABLE_PLACE k).offset (first_place xs)) first
+            (has_pointer bytes (field bytes FREE_TABLE_PLACE FREE_TABLE_LENGTH) (list_first FREE_TABLE_PLACE k).offset (4 + 24 * k) (first_place (list_of t k)) (ap (λ o. field bytes o 12) (shift k) ∙ sym (inner_field bytes FREE_TABLE_PLACE FREE_TABLE_LENGTH (4 + 24 * k) 12 (omega (arith, lt)))) said);
       }
     where
-      shift : (k : ℕ) → 190 + 24 * k ≡ 186 + (4 + 24 * k)
+      shift : (k : ℕ) → 190 + 24 * k ≡ FREE_TABLE_PLACE + (4 + 24 * k)
       shift k = omega arith
   link_says k before after (Some front) lt is e =
       let w : EndsWith before front = ends_with before front e in

@@ -9,7 +9,8 @@ use Rattle.adf_format.specs.declared.types.ExtentKind.{ExtentKind}
 use Rattle.adf_format.specs.Tiles.{Tiles, cover, end_of, is_filler}
 use Rattle.adf_format.specs.Placement.{Heap, extent}
 use Rattle.adf_format.specs.LaysOut.{AreGapsInOrder, ThreadsFreeChunks}
-use Rattle.adf_format.specs.Fields.{field}
+use Rattle.adf_format.specs.declared.fields.TheConstants.{HEADER_END}
+use Rattle.adf_format.specs.RecordFields.{field_in}
 use Rattle.adf_format.specs.Pointer.{PointsTo}
 use Rattle.file_heap.specs.Links.{AreApart}
 use Rattle.adf_format.specs.HeapRule.{heap_take, give_alone}
@@ -95,7 +96,7 @@ KeepsFillers gaps after old new = HoldsFillers old gaps → HoldsFillers new aft
 
 -- where the end pointer names the one end, it names the other afterwards
 abbrev pub MovesEnd : ℕ → ℕ → List ℕ → List ℕ → Type 0
-MovesEnd end after old new = PointsTo (field old 146 12) end → PointsTo (field new 146 12) after
+MovesEnd end after old new = PointsTo (field_in old HEADER_END) end → PointsTo (field_in new HEADER_END) after
 
 -- the lists thread the free chunks among gaps as before
 abbrev pub KeepsThreads : List ℕ → List ℕ → Type 0

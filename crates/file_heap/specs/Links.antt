@@ -1,8 +1,10 @@
 -- The lists of free chunks in the bytes: where a pointer to a free chunk stands, and what the parts of a call write.
-use Rattle.std.specs.Prelude.{codes, ◌≡◌, ◌≢◌, ℕ, ◌+◌, ◌-◌, ◌*◌, ◌<◌, ◌≤◌, ◌^◌, get_or, List, [], ◌∷◌, ◌++◌, length, filter, Option, Some, None, ⊤}
+use Rattle.std.specs.Prelude.{codes, ◌≡◌, ◌≢◌, ℕ, ◌+◌, ◌-◌, ◌<◌, ◌≤◌, ◌^◌, get_or, List, [], ◌∷◌, ◌++◌, length, filter, Option, Some, None, ⊤}
 use Rattle.std.specs.List.{AllByRecursion}
 use Rattle.adf_format.specs.declared.types.Extent.{Extent}
 use Rattle.adf_format.specs.declared.types.ExtentKind.{ExtentKind}
+use Rattle.adf_format.specs.declared.fields.TheConstants.{HEADER_END, FREE_TABLE_PLACE, FREE_TABLE_LENGTH, FREE_NEXT}
+use Rattle.adf_format.specs.RecordFields.{list_first, list_last}
 use Rattle.adf_format.specs.Pointer.{To, pointer_text}
 use Rattle.adf_format.specs.Records.{free_head_text}
 use Rattle.adf_format.specs.Spelled.{pointer_to}
@@ -16,8 +18,8 @@ use Rattle.file_heap.specs.declared.lists.Spot.{Spot}
 
 -- where the pointer to the chunk behind another stands, or that to the first of list k
 abbrev pub link_at : ℕ → Option ℕ → ℕ
-link_at k None = 190 + 24 * k
-link_at k (Some front) = front + 16
+link_at k None = (list_first FREE_TABLE_PLACE k).offset
+link_at k (Some front) = front + FREE_NEXT.offset
 
 -- a chunk at this place has its head below the greatest place
 abbrev pub HasHead : Option ℕ → Type 0
@@ -102,7 +104,7 @@ pub record AreGaps (gaps : List Extent) : Type 0 where
 
 -- list k ends at the chunk in front from now on, where nothing is behind that
 abbrev pub EndsList : ℕ → Option ℕ → Option ℕ → List ℕ → List ℕ → Type 0
-EndsList k None front old new = Writes (202 + 24 * k) (pointer_text (pointer_to front)) old new
+EndsList k None front old new = Writes (list_last FREE_TABLE_PLACE k).offset (pointer_text (pointer_to front)) old new
 EndsList k (Some next) front old new = new ≡ old
 
 -- the pointer behind a chunk, or to the first of list k, is written over, and the last pointer of the list with it
@@ -121,14 +123,14 @@ pub record WritesChunk (place length : ℕ) (next : Option ℕ) (old new : List 
 pub record Pushes (place length k : ℕ) (first : Option ℕ) (old new : List ℕ) : Type 0 where
   pub whole : List ℕ
   pub linked : List ℕ
-  pub follows : Follows (Some old) (190 + 24 * k) first
+  pub follows : Follows (Some old) (link_at k None) first
   pub chunk : WritesChunk place length first old whole
-  pub link : Writes (190 + 24 * k) (pointer_text (To place)) whole linked
+  pub link : Writes (link_at k None) (pointer_text (To place)) whole linked
   pub last : EndsList k first (Some place) linked new
 
 -- a gap is written: a filler's bytes, or a free chunk that joins the free chunks in the lists
 pub record WritesGap (place length : ℕ) (old new : List ℕ) : Type 0 where
-  pub threads : (gaps : List Extent) → MeetsNone place length (filter is_free gaps) → MeetsNone 186 80 (filter is_free gaps) → 266 ≤ place → ThreadsFreeChunks old gaps → ThreadsFreeChunks new (new_gap place length ∷ gaps)
+  pub threads : (gaps : List Extent) → MeetsNone place length (filter is_free gaps) → MeetsNone FREE_TABLE_PLACE FREE_TABLE_LENGTH (filter is_free gaps) → 266 ≤ place → ThreadsFreeChunks old gaps → ThreadsFreeChunks new (new_gap place length ∷ gaps)
   pub fills : length < 32 → (b : ℕ) → place ≤ b → b < place + length → get_or new b 0 ≡ 122
 
 -- ---- what may change
@@ -137,9 +139,13 @@ abbrev pub range : ℕ → ℕ → Extent
 range place length = extent ExtentKind.FreeChunk place length
 
 abbrev pub free_table : Extent
-free_table = extent ExtentKind.FreeTable 186 80
+free_table = extent ExtentKind.FreeTable FREE_TABLE_PLACE FREE_TABLE_LENGTH
+
+-- the end pointer
+abbrev pub end_pointer : Extent
+end_pointer = range HEADER_END.offset HEADER_END.length
 
 -- the pointer behind a chunk
 abbrev pub link_range : Option ℕ → List Extent
 link_range None = []
-link_range (Some front) = range (front + 16) 12 ∷ []
+link_range (Some front) = range (front + FREE_NEXT.offset) FREE_NEXT.length ∷ []

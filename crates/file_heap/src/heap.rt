@@ -7,7 +7,7 @@ ghost use Rattle.adf_format.specs.LaysOut.{ThreadsFreeChunks};
 ghost use Rattle.adf_format.specs.HeapRule.{cut, give_alone};
 ghost use Rattle.adf_model.specs.declared.error.AdfError.{AdfError};
 ghost use Rattle.file_heap.specs.Gaps.{IsFirstFit, gap_at};
-ghost use Rattle.file_heap.specs.Links.{AreGaps, ThreadsNone, range, free_table};
+ghost use Rattle.file_heap.specs.Links.{AreGaps, ThreadsNone, range, free_table, end_pointer};
 ghost use Rattle.file_heap.specs.Heap.{IsHeap, gaps_in, TakesBy, Grows, given, IsUntold, IsRefusal, IsTakeRefusal, ChangesOnly, MovesEnd, KeepsThreads, KeepsFillers, Looks, TakesOfTiles, GivesToTiles};
 
 use crate::gaps::{cut_at, find_fit, gap_of, new_gap, put_gap};
@@ -200,7 +200,7 @@ fn grow<S: Space>(space: &mut S, end: &mut u64, limit: u64, n: u64) -> Result<u6
     ensures sound { S.is_sound space.new }
     ensures grows { Grows limit n end.old result end.new }
     ensures threads { OnOk result (Both KeepsThreads (S.image space.old) (S.image space.new)) }
-    ensures bytes { Both (ChangesOnly (range 146 12 ∷ [])) (S.image space.old) (S.image space.new) }
+    ensures bytes { Both (ChangesOnly (end_pointer ∷ [])) (S.image space.old) (S.image space.new) }
     ensures end { OnOk result (Both (MovesEnd end.old end.new) (S.image space.old) (S.image space.new)) }
     ensures effect { Looks (S.state space.old) (S.state space.new) }
     ensures cause { IfErr result (IsTakeRefusal (IsUntold (S.image space.old)) (S.state space.old).faults (S.state space.new).faults) }

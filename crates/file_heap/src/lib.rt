@@ -14,4 +14,6 @@ pub use heap::Heap;
 #[cfg(test)]
 mod conditions;
 #[cfg(test)]
+mod spaces;
+#[cfg(test)]
 mod tests;

@@ -1,11 +1,11 @@
 // The lists of free chunks in a space.
-ghost use Rattle.std.specs.Prelude.{◌≡◌, ◌^◌, ◌*◌, ◌+◌, ◌-◌, ◌≤◌, ◌<◌, ◌∷◌, [], ◌++◌, length, remove, codes, Some, IfOk, IfErr, IfSome, OnOk, filter, true};
+ghost use Rattle.std.specs.Prelude.{None, ◌≡◌, ◌^◌, ◌*◌, ◌+◌, ◌-◌, ◌≤◌, ◌<◌, ◌∷◌, [], ◌++◌, length, remove, codes, Some, IfOk, IfErr, IfSome, OnOk, filter, true};
 ghost use Rattle.cg_io.specs.Blocks.{Both, KeepsOutside};
 ghost use Rattle.adf_format.specs.Spelled.{IsInReach};
 ghost use Rattle.adf_format.specs.LaysOut.{ThreadsFreeChunks};
 ghost use Rattle.file_heap.specs.Gaps.{gap_at};
 ghost use Rattle.adf_format.specs.Tiles.{end_of, is_free};
-ghost use Rattle.file_heap.specs.Links.{HasHead, AreApart, ThreadsNone, list_of, IsFound, IsSpotIn, IsSpotOf, IsFreeAt, Follows, EndsList, Relinks, WritesChunk, WritesGap, range, free_table, link_range};
+ghost use Rattle.file_heap.specs.Links.{link_at, HasHead, AreApart, ThreadsNone, list_of, IsFound, IsSpotIn, IsSpotOf, IsFreeAt, Follows, EndsList, Relinks, WritesChunk, WritesGap, range, free_table, link_range};
 ghost use Rattle.file_heap.specs.Heap.{ChangesOnly, Looks, IsRefusal, IsUntold};
 
 use crate::gaps::gap_of;
@@ -215,7 +215,7 @@ fn first_in<S: Space>(space: &mut S, list: u64) -> Result<Option<u64>, AdfError>
     requires list { list < 3 }
     ensures sound { S.is_sound space.new }
     ensures image { S.image space.new ≡ S.image space.old }
-    ensures told { IfOk result (Follows (S.image space.old) (190 + 24 * list)) }
+    ensures told { IfOk result (Follows (S.image space.old) (link_at list None)) }
     ensures reach { IfOk result IsInReach }
     ensures effect { Looks (S.state space.old) (S.state space.new) }
     ensures cause { IfErr result (IsRefusal (ThreadsNone (S.image space.old)) (S.state space.old).faults (S.state space.new).faults) }
