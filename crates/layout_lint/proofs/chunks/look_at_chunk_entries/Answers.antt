@@ -1,0 +1,20 @@
+use Rattle.std.proofs.Common.{◌≡◌, ◌∙◌, ◌+◌, ◌*◌, refl, sym, arith, ℕ, map}
+use Rattle.adf_format.specs.FirstFault.{count_up}
+use Rattle.layout_lint.specs.Chunks.{chunk_entry_row}
+use Rattle.layout_lint.proofs.ReadLaws.{reads_then}
+use Rattle.layout_lint.proofs.RowSteps.{this_breaks, this_kept}
+use Rattle.layout_lint.proofs.chunks.look_at_chunk_entries.Goals as goal
+
+pub returns-in-Err-clause-rows : goal.returns-in-Err-clause-rows
+returns-in-Err-clause-rows g c = λ image told within.
+    this_breaks (λ i. chunk_entry_row image (c.args.chunks.place + 16 + 24 * i)) c.loop-position.position c.args.chunks.count (map (λ i. chunk_entry_row image (c.args.chunks.place + 16 + 24 * i)) (count_up c.args.chunks.count)) c.in-Err.halt c.loop-position-test.true (c.loop-position.invariant.rest image told within)
+    (rw c.entry.ensures at (c.in-Err.ensures.rows image (c.loop-position.invariant.effect.held ∙ told) (omega arith)))
+
+pub loop-position-preserved : goal.loop-position-preserved
+loop-position-preserved g c = record {
+  ready = c.look_at_chunk_entry.ensures.ready;
+  effect = reads_then _ _ _ _ _ _ c.loop-position.invariant.effect c.look_at_chunk_entry.ensures.effect (omega arith);
+  rest = λ image told within.
+      this_kept (λ i. chunk_entry_row image (c.args.chunks.place + 16 + 24 * i)) c.loop-position.position c.args.chunks.count _ c.loop-position-test.true (c.loop-position.invariant.rest image told within)
+      (rw c.entry.ensures at (c.in-Ok.ensures.rows image (c.loop-position.invariant.effect.held ∙ told) (omega arith)));
+}

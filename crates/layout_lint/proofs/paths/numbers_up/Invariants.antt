@@ -1,0 +1,14 @@
+use Rattle.std.proofs.Common.{◌<◌, ℕ, map, length}
+use Rattle.std.specs.List.{All}
+use Rattle.adf_format.specs.Verdict.{ListsNodes}
+use Rattle.adf_format.specs.Tree.{Tree, IsTree, IsNumbered}
+use Rattle.adf_format.specs.Placement.{Placement}
+use Rattle.layout_lint.specs.Walks.{node_place}
+use Rattle.layout_lint.proofs.PathLaws.{IsClimbed}
+use Rattle.layout_lint.proofs.paths.numbers_up.Given as goal
+
+abbrev pub invariant-loop : goal.invariant-loop
+invariant-loop l = record {
+  there : All (λ (k : ℕ). k < length l.nodes) l.up.items;
+  climbed : (tree : Tree) (p : Placement) → IsTree tree → IsNumbered tree → ListsNodes tree p (map node_place l.nodes) → l.number < length l.nodes → IsClimbed tree (length l.nodes) l.number l.at l.counter l.up.items;
+}

@@ -1,0 +1,14 @@
+pub mod Told
+pub mod Halts
+pub mod Heads
+pub mod Marks
+pub mod Entries
+pub mod Chunks
+pub mod Nodes
+pub mod Fillers
+pub mod Gaps
+pub mod Walks
+pub mod Lists
+pub mod Verdicts
+pub mod Owners
+pub mod Paths

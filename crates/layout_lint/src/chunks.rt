@@ -1,0 +1,402 @@
+//! The chunks of a node's data, and the table of them.
+
+ghost use Rattle.std.specs.Prelude.{◌≡◌, ◌^◌, ◌+◌, ◌-◌, ◌*◌, ◌≤◌, ◌<◌, ◌==◌, ◌++◌, [], ◌∷◌, ◌++◌, length, map, nat_lt, Some, None, IfOk, IfErr, IfSome, OnOk, option_map};
+ghost use Rattle.cg_io.specs.Blocks.{ReadsFew};
+ghost use Rattle.adf_format.specs.Parts.{chunk_table_length};
+ghost use Rattle.adf_format.specs.Fields.{field};
+ghost use Rattle.adf_format.specs.FirstFault.{chunk_table_rows, chunk_rows, chunk_length, payload_total, count_up, agrees, rows_unless};
+ghost use Rattle.adf_format.specs.Tiles.{total_length};
+ghost use Rattle.layout_lint.specs.Told.{Told, IsReady};
+ghost use Rattle.layout_lint.specs.Halts.{Finds, HasCount, MayLackMemory, IsNoFault, IsWant};
+ghost use Rattle.layout_lint.specs.Chunks.{visit_of, chunk_said, chunk_entry_row, listed_chunk, chunk_visit, one_chunk_rows, tail_said, chunk_list, data_extent, list_extents, AddsChunks};
+
+use crate::marks::{Mark, look_at_start, look_at_tail, place_in, place_or_zero, points_to};
+use crate::pages::{Page, field_at};
+use crate::verdict::{Halt, Span, halt_at};
+use adf_chunks::Part;
+use adf_format::{Extent, ExtentKind};
+use cg_io::Blocks;
+
+/// The chunks of a node: their number, and the place of the one chunk or of the table of several.
+#[derive(Clone, Copy, Drop)]
+pub struct Chunks {
+    pub count: u16,
+    pub place: u64,
+}
+
+impl Chunks {
+    /// Whether they have a table.
+    pub fn are_listed(self) -> bool
+        ensures { result ≡ nat_lt 1 self.count }
+    {
+        self.count > 1
+    }
+
+    /// How many bytes the table has.
+    pub fn table_length(self) -> u64
+        ensures { result ≡ chunk_table_length self.count }
+    {
+        20 + 24 * u64::from(self.count)
+    }
+
+    /// Where the end tag of the table stands.
+    pub fn tail(self) -> u64
+        requires { self.place < 2 ^ 44 }
+        ensures { result ≡ self.place + 16 + 24 * self.count }
+    {
+        self.place + 16 + 24 * u64::from(self.count)
+    }
+
+    /// Where an entry of the table stands.
+    pub fn entry(self, position: u16) -> u64
+        requires { self.place < 2 ^ 44 }
+        ensures { result ≡ self.place + 16 + 24 * position }
+    {
+        self.place + 16 + 24 * u64::from(position)
+    }
+}
+
+/// A chunk as its node or the table names it, with the end tag that the table gives.
+#[derive(Clone, Copy, Drop)]
+pub struct Chunk {
+    pub place: u64,
+    pub listed: Option<u64>,
+}
+
+// The chunk in an entry of a table, where both pointers name places.
+fn chunk_in(bytes: &[u8; 24]) -> Option<Chunk>
+    ensures said { option_map visit_of result ≡ chunk_said bytes.now }
+    ensures bound { IfSome result (λ chunk. chunk.place < 2 ^ 44) }
+{
+    let place = match place_in(bytes, 0) {
+        Some(place) => place,
+        None => return None,
+    };
+    match place_in(bytes, 12) {
+        Some(tail) => Some(Chunk {
+            place,
+            listed: Some(tail),
+        }),
+        None => None,
+    }
+}
+
+/// Looks at an entry of a table of chunks: rule 25.
+pub fn look_at_chunk_entry<B: Blocks>(
+    blocks: &mut B,
+    page: &mut Page,
+    at: u64,
+) -> Result<Chunk, Halt>
+    requires ready { IsReady (B.is_sound blocks.old) (B.state blocks.old).held page.old }
+    requires within { at + 24 ≤ 2 ^ 44 }
+    ensures ready { IsReady (B.is_sound blocks.new) (B.state blocks.new).held page.new }
+    ensures rows { Told (B.state blocks.old).held (λ image. at + 24 ≤ length image → Finds (chunk_entry_row image at ∷ []) result) }
+    ensures says { IfOk result (λ chunk. Told (B.state blocks.old).held (λ image. at + 24 ≤ length image → visit_of chunk ≡ listed_chunk image at)) }
+    ensures bound { IfOk result (λ chunk. chunk.place < 2 ^ 44) }
+    ensures effect { ReadsFew 2 (B.state blocks.old) (B.state blocks.new) }
+    ensures cause { IfErr result (HasCount (B.state blocks.old).faults (B.state blocks.new).faults) }
+{
+    let bytes = match field_at::<B, 24>(blocks, page, at) {
+        Ok(bytes) => bytes,
+        Err(halt) => return Err(halt),
+    };
+    match chunk_in(&bytes) {
+        Some(chunk) => Ok(chunk),
+        None => halt_at(25, at),
+    }
+}
+
+// Looks at the entries of a table of chunks: rule 25.
+fn look_at_chunk_entries<B: Blocks>(
+    blocks: &mut B,
+    page: &mut Page,
+    chunks: Chunks,
+) -> Result<(), Halt>
+    requires ready { IsReady (B.is_sound blocks.old) (B.state blocks.old).held page.old }
+    requires within { chunks.place + 16 + 24 * chunks.count ≤ 2 ^ 44 }
+    ensures ready { IsReady (B.is_sound blocks.new) (B.state blocks.new).held page.new }
+    ensures rows { Told (B.state blocks.old).held (λ image. chunks.place + 16 + 24 * chunks.count ≤ length image
+        → Finds (map (λ i. chunk_entry_row image (chunks.place + 16 + 24 * i)) (count_up chunks.count)) result) }
+    ensures effect { ReadsFew (2 * chunks.count) (B.state blocks.old) (B.state blocks.new) }
+    ensures cause { IfErr result (HasCount (B.state blocks.old).faults (B.state blocks.new).faults) }
+{
+    for position in 0..chunks.count {
+        match look_at_chunk_entry(blocks, page, chunks.entry(position)) {
+            Ok(_) => {}
+            Err(halt) => return Err(halt),
+        }
+    }
+    Ok(())
+}
+
+/// Looks at the table of chunks: rules 25 and 14.
+pub fn look_at_chunk_table<B: Blocks>(
+    blocks: &mut B,
+    page: &mut Page,
+    span: Span,
+    used: u64,
+    chunks: Chunks,
+) -> Result<(), Halt>
+    requires ready { IsReady (B.is_sound blocks.old) (B.state blocks.old).held page.old }
+    requires end { span.end < 2 ^ 44 }
+    requires place { chunks.place < 2 ^ 44 }
+    ensures ready { IsReady (B.is_sound blocks.new) (B.state blocks.new).held page.new }
+    ensures rows { Told (B.state blocks.old).held (λ image. span.end < length image → Finds (chunk_table_rows image span.end used chunks.place chunks.count) result) }
+    ensures fits { OnOk result ((266 ≤ chunks.place) × (chunks.place + chunk_table_length chunks.count ≤ span.end + 1)) }
+    ensures room { OnOk result (used + chunk_table_length chunks.count ≤ span.end + 1) }
+    ensures effect { ReadsFew (2 * chunks.count + 4) (B.state blocks.old) (B.state blocks.new) }
+    ensures short { ReadsFew (span.end + 5) (B.state blocks.old) (B.state blocks.new) }
+    ensures cause { IfErr result (HasCount (B.state blocks.old).faults (B.state blocks.new).faults) }
+{
+    let length = chunks.table_length();
+    let tail = chunks.tail();
+    let mark = Mark {
+        part: Part::Chunks,
+        place: chunks.place,
+        rule: 25,
+        least: length,
+    };
+    let head = match look_at_start::<B, 16>(blocks, page, span, mark) {
+        Ok(head) => head,
+        Err(halt) => return Err(halt),
+    };
+    if !points_to(&head, 4, tail) {
+        return halt_at(25, chunks.place + 4);
+    }
+    match look_at_chunk_entries(blocks, page, chunks) {
+        Ok(()) => {}
+        Err(halt) => return Err(halt),
+    }
+    match look_at_tail(blocks, page, mark, tail) {
+        Ok(()) => {}
+        Err(halt) => return Err(halt),
+    }
+    if !span.has_room(used, length) {
+        return halt_at(14, chunks.place);
+    }
+    Ok(())
+}
+
+/// Looks at the table of chunks, if there is one, and adds it to the extents: rules 25 and 14. It says
+/// how many bytes are used with it.
+pub fn look_at_listing<B: Blocks>(
+    blocks: &mut B,
+    page: &mut Page,
+    span: Span,
+    used: u64,
+    chunks: Chunks,
+    extents: &mut Vec<Extent>,
+) -> Result<u64, Halt>
+    requires ready { IsReady (B.is_sound blocks.old) (B.state blocks.old).held page.old }
+    requires end { span.end < 2 ^ 44 }
+    requires used { used ≤ span.end + 1 }
+    requires place { chunks.place < 2 ^ 44 }
+    ensures ready { IsReady (B.is_sound blocks.new) (B.state blocks.new).held page.new }
+    ensures rows { Told (B.state blocks.old).held (λ image. span.end < length image → Finds (rows_unless (nat_lt chunks.count 2) (chunk_table_rows image span.end used chunks.place chunks.count)) result) }
+    ensures used { IfOk result (λ n. n ≡ used + total_length (list_extents chunks.place chunks.count)) }
+    ensures extents { OnOk result (extents.new.items ≡ extents.old.items ++ list_extents chunks.place chunks.count) }
+    ensures fits { OnOk result (1 < chunks.count → chunks.place + chunk_table_length chunks.count ≤ span.end + 1) }
+    ensures room { IfOk result (λ n. n ≤ span.end + 1) }
+    ensures few { IfOk result (λ n. ReadsFew (n - used) (B.state blocks.old) (B.state blocks.new)) }
+    ensures short { ReadsFew (span.end + 5) (B.state blocks.old) (B.state blocks.new) }
+    ensures cause { IfErr result (MayLackMemory (B.state blocks.old).faults (B.state blocks.new).faults) }
+{
+    if !chunks.are_listed() {
+        return Ok(used);
+    }
+    match look_at_chunk_table(blocks, page, span, used, chunks) {
+        Ok(()) => {}
+        Err(halt) => return Err(halt),
+    }
+    let length = chunks.table_length();
+    match add_extent(extents, ExtentKind::ChunkTable, chunks.place, length) {
+        Ok(()) => Ok(used + length),
+        Err(halt) => Err(halt),
+    }
+}
+
+/// The chunk at a position, where the table was looked at.
+pub fn chunk_at<B: Blocks>(
+    blocks: &mut B,
+    page: &mut Page,
+    chunks: Chunks,
+    position: u16,
+) -> Result<Chunk, Halt>
+    requires ready { IsReady (B.is_sound blocks.old) (B.state blocks.old).held page.old }
+    requires place { chunks.place < 2 ^ 44 }
+    requires listed { 1 < chunks.count → chunks.place + 16 + 24 * position + 24 ≤ 2 ^ 44 }
+    ensures ready { IsReady (B.is_sound blocks.new) (B.state blocks.new).held page.new }
+    ensures says { IfOk result (λ chunk. Told (B.state blocks.old).held (λ image. (1 < chunks.count → chunks.place + 16 + 24 * position + 24 ≤ length image)
+        → visit_of chunk ≡ chunk_visit image chunks.place chunks.count position)) }
+    ensures bound { IfOk result (λ chunk. chunk.place < 2 ^ 44) }
+    ensures no_fault { IfErr result IsNoFault }
+    ensures effect { ReadsFew 2 (B.state blocks.old) (B.state blocks.new) }
+    ensures cause { IfErr result (HasCount (B.state blocks.old).faults (B.state blocks.new).faults) }
+{
+    if !chunks.are_listed() {
+        return Ok(Chunk {
+            place: chunks.place,
+            listed: None,
+        });
+    }
+    let bytes = match field_at::<B, 24>(blocks, page, chunks.entry(position)) {
+        Ok(bytes) => bytes,
+        Err(halt) => return Err(halt),
+    };
+    Ok(Chunk {
+        place: place_or_zero(&bytes, 0),
+        listed: Some(place_or_zero(&bytes, 12)),
+    })
+}
+
+// Whether the table, if there is one, gives this end tag too.
+fn agrees(listed: Option<u64>, tail: u64) -> bool
+    ensures { result ≡ agrees listed tail }
+{
+    match listed {
+        Some(listed) => listed == tail,
+        None => true,
+    }
+}
+
+// Where the end tag stands, if that is a chunk's, and the table gives it too.
+fn tail_of(span: Span, chunk: Chunk, head: &[u8; 16]) -> Option<u64>
+    requires end { span.end < 2 ^ 44 }
+    requires place { chunk.place < 2 ^ 44 }
+    ensures said { result ≡ tail_said span.end (visit_of chunk) (field head.now 4 12) }
+    ensures bounds { IfSome result (λ tail. (chunk.place + 17 ≤ tail) × (tail + 3 ≤ span.end)) }
+{
+    let tail = match place_in(head, 4) {
+        Some(tail) => tail,
+        None => return None,
+    };
+    if tail + 4 < chunk.place + 21 {
+        return None;
+    }
+    if span.end + 1 < tail + 4 {
+        return None;
+    }
+    if !agrees(chunk.listed, tail) {
+        return None;
+    }
+    Some(tail)
+}
+
+/// Looks at a chunk, and says how long it is: rules 26 and 14.
+pub fn look_at_chunk<B: Blocks>(
+    blocks: &mut B,
+    page: &mut Page,
+    span: Span,
+    used: u64,
+    chunk: Chunk,
+) -> Result<u64, Halt>
+    requires ready { IsReady (B.is_sound blocks.old) (B.state blocks.old).held page.old }
+    requires end { span.end < 2 ^ 44 }
+    requires place { chunk.place < 2 ^ 44 }
+    ensures ready { IsReady (B.is_sound blocks.new) (B.state blocks.new).held page.new }
+    ensures rows { Told (B.state blocks.old).held (λ image. span.end < length image → Finds (one_chunk_rows image span.end used (visit_of chunk)) result) }
+    ensures says { IfOk result (λ n. Told (B.state blocks.old).held (λ image. span.end < length image → n ≡ chunk_length image chunk.place)) }
+    ensures fits { IfOk result (λ n. (266 ≤ chunk.place) × (21 ≤ n) × (chunk.place + n ≤ span.end + 1) × (used + n ≤ span.end + 1)) }
+    ensures effect { ReadsFew 4 (B.state blocks.old) (B.state blocks.new) }
+    ensures cause { IfErr result (HasCount (B.state blocks.old).faults (B.state blocks.new).faults) }
+{
+    let mark = Mark {
+        part: Part::Data,
+        place: chunk.place,
+        rule: 26,
+        least: 21,
+    };
+    let head = match look_at_start::<B, 16>(blocks, page, span, mark) {
+        Ok(head) => head,
+        Err(halt) => return Err(halt),
+    };
+    let tail = match tail_of(span, chunk, &head) {
+        Some(tail) => tail,
+        None => return halt_at(26, chunk.place + 4),
+    };
+    match look_at_tail(blocks, page, mark, tail) {
+        Ok(()) => {}
+        Err(halt) => return Err(halt),
+    }
+    let length = tail + 4 - chunk.place;
+    if !span.has_room(used, length) {
+        return halt_at(14, chunk.place);
+    }
+    Ok(length)
+}
+
+/// What the chunks of a node add up to.
+#[derive(Clone, Copy, Drop)]
+pub struct Sums {
+    /// The bytes of all extents found so far.
+    pub used: u64,
+    /// The bytes of the payloads.
+    pub payload: u64,
+}
+
+/// Looks at the chunks of a node in their order, and adds them to the extents: rules 26 and 14.
+pub fn look_at_chunks<B: Blocks>(
+    blocks: &mut B,
+    page: &mut Page,
+    span: Span,
+    used: u64,
+    chunks: Chunks,
+    extents: &mut Vec<Extent>,
+) -> Result<Sums, Halt>
+    requires ready { IsReady (B.is_sound blocks.old) (B.state blocks.old).held page.old }
+    requires end { span.end < 2 ^ 44 }
+    requires used { used ≤ span.end + 1 }
+    requires place { chunks.place < 2 ^ 44 }
+    requires listed { 1 < chunks.count → chunks.place + chunk_table_length chunks.count ≤ span.end + 1 }
+    ensures ready { IsReady (B.is_sound blocks.new) (B.state blocks.new).held page.new }
+    ensures rows { Told (B.state blocks.old).held (λ image. span.end < length image → Finds (chunk_rows image span.end used (chunk_list image chunks.place chunks.count)) result) }
+    ensures used { IfOk result (λ s. Told (B.state blocks.old).held (λ image. span.end < length image
+        → s.used ≡ used + total_length (map (data_extent image) (chunk_list image chunks.place chunks.count)))) }
+    ensures payload { IfOk result (λ s. Told (B.state blocks.old).held (λ image. span.end < length image → s.payload ≡ payload_total image (chunk_list image chunks.place chunks.count))) }
+    ensures extents { OnOk result (Told (B.state blocks.old).held (λ image. span.end < length image
+        → extents.new.items ≡ extents.old.items ++ map (data_extent image) (chunk_list image chunks.place chunks.count))) }
+    ensures added { OnOk result (AddsChunks span.end chunks.count extents.old.items extents.new.items) }
+    ensures bounds { IfOk result (λ s. (s.used ≡ used + 20 * chunks.count + s.payload) × (s.used ≤ span.end + 1)) }
+    ensures effect { ReadsFew (6 * chunks.count) (B.state blocks.old) (B.state blocks.new) }
+    ensures cause { IfErr result (MayLackMemory (B.state blocks.old).faults (B.state blocks.new).faults) }
+{
+    let mut sums = Sums { used, payload: 0 };
+    for position in 0..chunks.count {
+        let chunk = match chunk_at(blocks, page, chunks, position) {
+            Ok(chunk) => chunk,
+            Err(halt) => return Err(halt),
+        };
+        let length = match look_at_chunk(blocks, page, span, sums.used, chunk) {
+            Ok(length) => length,
+            Err(halt) => return Err(halt),
+        };
+        match add_extent(extents, ExtentKind::DataChunk, chunk.place, length) {
+            Ok(()) => {}
+            Err(halt) => return Err(halt),
+        }
+        sums.used += length;
+        sums.payload += length - 20;
+    }
+    Ok(sums)
+}
+
+/// Puts an extent behind those found so far.
+pub fn add_extent(
+    extents: &mut Vec<Extent>,
+    kind: ExtentKind,
+    place: u64,
+    length: u64,
+) -> Result<(), Halt>
+    ensures added { OnOk result (extents.new.items ≡ extents.old.items ++ record { place = place; length = length; kind = kind } ∷ []) }
+    ensures want { IfErr result IsWant }
+{
+    let extent = Extent {
+        place,
+        length,
+        kind,
+    };
+    match extents.push(extent) {
+        Ok(()) => Ok(()),
+        Err(_) => Err(Halt::Memory),
+    }
+}
