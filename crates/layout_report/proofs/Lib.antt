@@ -1,0 +1,5 @@
+mod LintedLaws
+mod ListedLaws
+mod MappedLaws
+mod ReportLaws
+mod TextLaws
