@@ -1,7 +1,6 @@
 -- What the commands print, how they end, and what they leave.
 use Rattle.std.specs.Prelude.{◌≡◌, ℕ, ◌<◌, ◌≤◌, ⊤, Bool, false, List, [], ◌∷◌, length, map, codes, Some, None, Option, is_some, take, if◌then◌else◌, ◌&&◌, not, Result, Ok, Err}
 use Rattle.std.specs.List.{list_all}
-use Rattle.std.specs.Option.{option_and_then}
 use Rattle.std.specs.Str.{bytes_eq}
 use Rattle.std.specs.Io.KnownBytes.{Consumes, IsAtEnd}
 use Rattle.adf_model.specs.declared.error.AdfError.{AdfError}
@@ -13,6 +12,10 @@ use Rattle.cg_io.specs.Device.{DeviceState}
 use Rattle.plain_library.specs.Fresh.{MakesFresh}
 use Rattle.plain_library.specs.Library.{shelf_files, shelf_devices, standing_name, unplaced}
 use Rattle.plain_library.specs.Shelf.{SlotState, number_in, device_at, with_device}
+use Rattle.layout_lint.specs.Owners.{OnlyReads}
+use Rattle.layout_report.specs.Reports.{Says, Linted, Mapped}
+use Rattle.layout_report.specs.declared.Report.{Report}
+use Rattle.layout_report.specs.declared.Report.TheVariants as report
 use Rattle.session.specs.Session.{Scene, HasRun, IsBounded}
 use Rattle.session.specs.declared.session.Ended.{Ended}
 use Rattle.session.specs.declared.session.Ended.TheVariants as ended
@@ -31,15 +34,6 @@ usage = line (codes "usage: cgns_tool COMMAND WORD..")
 abbrev pub is_file_word : List ℕ → Bool
 is_file_word word = not (bytes_eq (take 1 word) []) && not (bytes_eq (take 1 word) (45 ∷ []))
 
--- the file of `init FILE`
-abbrev pub init_file : List (List ℕ) → Option (List ℕ)
-init_file (command ∷ file ∷ []) = if bytes_eq command (codes "init") && is_file_word file then Some file else None
-init_file words = None
-
--- the number of that file, where it is on the shelf
-abbrev pub init_number : List (List ℕ) → List SlotState → Option ℕ
-init_number words slots = option_and_then (number_in slots) (init_file words)
-
 -- a word that may name a file, and under which a device stands on the shelf
 abbrev pub names_device : List SlotState → List ℕ → Bool
 names_device slots word = is_file_word word && is_some (number_in slots word)
@@ -49,17 +43,35 @@ abbrev pub is_session : List (List ℕ) → List SlotState → Bool
 is_session (command ∷ file ∷ files) slots = bytes_eq command (codes "session") && list_all (names_device slots) (file ∷ files)
 is_session words slots = false
 
-abbrev pub init_wanted : Option ℕ → Wanted
-init_wanted None = asks.Nothing
-init_wanted (Some number) = asks.Init number
+-- the number of the device of a file, if the word may name one
+abbrev pub file_number : List SlotState → List ℕ → Option ℕ
+file_number slots word = if is_file_word word then number_in slots word else None
+
+-- the command over one file that has this name, on the device of this number
+abbrev pub command_on : List ℕ → ℕ → Wanted
+command_on command number =
+    if bytes_eq command (codes "init") then asks.Init number else
+    if bytes_eq command (codes "lint") then asks.Lint number else
+    if bytes_eq command (codes "map") then asks.Map number else asks.Nothing
+
+abbrev pub command_wanted : List ℕ → Option ℕ → Wanted
+command_wanted command None = asks.Nothing
+command_wanted command (Some number) = command_on command number
+
+-- `COMMAND FILE`, with a file that is on the shelf
+abbrev pub one_file_wanted : List (List ℕ) → List SlotState → Wanted
+one_file_wanted (command ∷ file ∷ []) slots = command_wanted command (file_number slots file)
+one_file_wanted words slots = asks.Nothing
 
 -- what the words ask for
 abbrev pub wanted : List (List ℕ) → List SlotState → Wanted
-wanted words slots = if is_session words slots then asks.Session else init_wanted (init_number words slots)
+wanted words slots = if is_session words slots then asks.Session else one_file_wanted words slots
 
 -- a number that is asked for is one of the shelf
 abbrev pub IsOnShelf : Wanted → List SlotState → Type 0
 IsOnShelf (asks.Init number) slots = number < length slots
+IsOnShelf (asks.Lint number) slots = number < length slots
+IsOnShelf (asks.Map number) slots = number < length slots
 IsOnShelf other slots = ⊤
 
 -- ---- init
@@ -81,6 +93,26 @@ init_status (Err other) = status.DeviceFault
 abbrev pub InitEnds : Status → DeviceState → DeviceState → Option (List ℕ) → Option (List ℕ) → ℕ → ℕ → Type 0
 InitEnds result old new taken now faults later =
     (made : Result Unit AdfError) × MakesFresh made old new × EndsWith (init_status made) (init_line made) result taken now faults later
+
+-- ---- reports on one file
+
+abbrev pub report_status : Report → Status
+report_status report.Done = status.Done
+report_status report.Broken = status.No
+report_status report.DeviceFault = status.DeviceFault
+report_status report.SinkFault = status.SinkFault
+report_status report.Memory = status.Memory
+
+-- What a report on the file of a device printed, and how it ended; nothing was written.
+pub record Reports (says : DeviceState → DeviceState → Report → List ℕ → Type 0) (result : Status) (old new : DeviceState) (taken now : Option (List ℕ)) (faults later : ℕ) : Type 0 where
+  pub how : Report
+  pub status : result ≡ report_status how
+  pub said : Says (says old new) taken now faults later how
+  pub reads : OnlyReads old new
+
+-- a command on the device of a number did this to it, and all other devices are as they were
+abbrev pub OnDevice : ℕ → (DeviceState → DeviceState → Type 0) → List SlotState → List SlotState → Type 0
+OnDevice n Did old new = (device : DeviceState) × (after : DeviceState) × (device_at old n ≡ Some device) × (new ≡ with_device old n (Some after)) × Did device after
 
 -- ---- sessions
 
@@ -128,9 +160,13 @@ pub record SessionEnds (how : Ended) (old new : List SlotState) (before now : St
 
 -- ---- all commands
 
--- how a run ends, and what it leaves on the shelf: without right words the usage line; else the fresh file on the device of that number alone, or a session over all
+-- how a run ends, and what it leaves on the shelf: without right words the usage line; else the fresh file or a report on the device of that number alone, or a session over all
 abbrev pub RunEnds : Wanted → Status → List SlotState → List SlotState → Streams → Streams → Type 0
 RunEnds asks.Nothing result old new before now = (new ≡ old) × EndsWith status.Usage usage result before.taken now.taken before.sink_faults now.sink_faults × InputStays before now
 RunEnds (asks.Init n) result old new before now =
-    ((device : DeviceState) × (after : DeviceState) × (device_at old n ≡ Some device) × (new ≡ with_device old n (Some after)) × InitEnds result device after before.taken now.taken before.sink_faults now.sink_faults) × InputStays before now
+    OnDevice n (λ device after. InitEnds result device after before.taken now.taken before.sink_faults now.sink_faults) old new × InputStays before now
+RunEnds (asks.Lint n) result old new before now =
+    OnDevice n (λ device after. Reports Linted result device after before.taken now.taken before.sink_faults now.sink_faults) old new × InputStays before now
+RunEnds (asks.Map n) result old new before now =
+    OnDevice n (λ device after. Reports Mapped result device after before.taken now.taken before.sink_faults now.sink_faults) old new × InputStays before now
 RunEnds asks.Session result old new before now = (how : Ended) × (result ≡ session_status how) × SessionEnds how old new before now

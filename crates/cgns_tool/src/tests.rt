@@ -41,7 +41,7 @@ struct Ran {
     device: MemoryDevice,
 }
 
-fn run_init(
+fn run_line(
     alloc: Global,
     line: &str,
     device: MemoryDevice,
@@ -69,7 +69,7 @@ fn run_init(
 #[test]
 fn an_empty_device_gets_the_fresh_file_in_one_write(rt: HostRuntime) -> Result<(), Fail> {
     let alloc = rt.alloc();
-    let ran = run_init(
+    let ran = run_line(
         alloc,
         "init a.adf",
         device_of(alloc, b"")?,
@@ -97,7 +97,7 @@ fn an_empty_device_gets_the_fresh_file_in_one_write(rt: HostRuntime) -> Result<(
 #[test]
 fn a_device_of_one_byte_is_refused_and_stays(rt: HostRuntime) -> Result<(), Fail> {
     let alloc = rt.alloc();
-    let ran = run_init(
+    let ran = run_line(
         alloc,
         "init a.adf",
         device_of(alloc, b"x")?,
@@ -120,7 +120,7 @@ fn wrong_words_print_the_usage_line_and_touch_nothing(rt: HostRuntime) -> Result
         "init ",
         "init -a",
         "Init a.adf",
-        "lint a.adf",
+        "tree a.adf",
         "init a.adf a.adf",
         "session",
         "session ",
@@ -130,7 +130,7 @@ fn wrong_words_print_the_usage_line_and_touch_nothing(rt: HostRuntime) -> Result
         "sessions a.adf",
         "--help",
     ] {
-        let ran = run_init(alloc, line, device_of(alloc, b"")?, MemorySink::new(alloc))?;
+        let ran = run_line(alloc, line, device_of(alloc, b"")?, MemorySink::new(alloc))?;
         assert_eq!(rt; ran.status, Status::Usage);
         assert_eq!(rt; ran.printed.as_slice(), USAGE.as_bytes());
         assert_eq!(rt; ran.device.held().len(), 0);
@@ -144,7 +144,7 @@ fn a_failed_read_is_told_and_writes_nothing(rt: HostRuntime) -> Result<(), Fail>
     let alloc = rt.alloc();
     let mut device = device_of(alloc, b"")?;
     device.fail_read(1)?;
-    let ran = run_init(alloc, "init a.adf", device, MemorySink::new(alloc))?;
+    let ran = run_line(alloc, "init a.adf", device, MemorySink::new(alloc))?;
     assert_eq!(rt; ran.status, Status::DeviceFault);
     assert_eq!(rt; ran.printed.as_slice(), b"E02 ReadFault\n".as_slice());
     assert_eq!(rt; ran.device.writes(), 0);
@@ -157,7 +157,7 @@ fn a_failed_write_is_told_and_keeps_what_it_kept(rt: HostRuntime) -> Result<(), 
     for (kept, length) in [(0, 0), (100, 4096), (4096, 4096)] {
         let mut device = device_of(alloc, b"")?;
         device.fail_write(1, kept)?;
-        let ran = run_init(alloc, "init a.adf", device, MemorySink::new(alloc))?;
+        let ran = run_line(alloc, "init a.adf", device, MemorySink::new(alloc))?;
         assert_eq!(rt; ran.status, Status::DeviceFault);
         assert_eq!(rt; ran.printed.as_slice(), b"E03 WriteFault\n".as_slice());
         assert_eq!(rt; ran.device.held().len(), length);
@@ -172,7 +172,7 @@ fn a_sink_that_fails_ends_the_run_with_its_status(rt: HostRuntime) -> Result<(),
     for line in ["init a.adf", "init"] {
         let mut output = MemorySink::new(alloc);
         output.fail_at(1);
-        let ran = run_init(alloc, line, device_of(alloc, b"")?, output)?;
+        let ran = run_line(alloc, line, device_of(alloc, b"")?, output)?;
         assert_eq!(rt; ran.status, Status::SinkFault);
         assert_eq!(rt; ran.printed.len(), 0);
     }
@@ -202,5 +202,26 @@ fn the_tool_runs_on_boxed_devices_and_leaves_the_others(rt: HostRuntime) -> Resu
     let mut second = second;
     assert_eq!(rt; first.length(), Ok(3));
     assert_eq!(rt; second.length(), Ok(4096));
+    Ok(())
+}
+
+#[test]
+fn a_fresh_file_is_linted_and_mapped(rt: HostRuntime) -> Result<(), Fail> {
+    let alloc = rt.alloc();
+    let empty = device_of(alloc, b"")?;
+    let made = run_line(alloc, "init a.adf", empty, MemorySink::new(alloc))?;
+    let linted = run_line(alloc, "lint a.adf", made.device, MemorySink::new(alloc))?;
+    assert_eq!(rt; linted.status, Status::Done);
+    assert_eq!(rt;
+        linted.printed.as_slice(),
+        b"sound nodes 1 gaps 0 end 511\n".as_slice()
+    );
+    let mapped = run_line(alloc, "map a.adf", linted.device, MemorySink::new(alloc))?;
+    assert_eq!(rt; mapped.status, Status::Done);
+    assert_eq!(rt;
+        mapped.printed.as_slice(),
+        b"0 186 header\n186 80 free-table\n266 246 node /\nend 511\n".as_slice()
+    );
+    assert_eq!(rt; mapped.device.writes(), 1);
     Ok(())
 }

@@ -1,15 +1,16 @@
 //! The commands.
 
-ghost use Rattle.std.specs.Prelude.{◌≡◌, ◌<◌, length, map, string_bytes, Some};
+ghost use Rattle.std.specs.Prelude.{◌≡◌, ◌<◌, length, map, string_bytes};
 ghost use Rattle.cgns_tool.specs.Printed.{EndsWith};
-ghost use Rattle.cgns_tool.specs.Tool.{InitEnds, RunEnds, SessionEnds, init_line, init_status, session_status, usage, wanted};
-ghost use Rattle.plain_library.specs.Shelf.{slots_of, device_at, with_device, IsShelf, IsWhole};
-ghost use Rattle.cg_io.specs.Device.{DeviceState};
+ghost use Rattle.cgns_tool.specs.Tool.{InitEnds, OnDevice, Reports, RunEnds, SessionEnds, init_line, init_status, report_status, session_status, usage, wanted};
+ghost use Rattle.layout_report.specs.Reports.{Linted, Mapped};
+ghost use Rattle.plain_library.specs.Shelf.{slots_of, IsShelf, IsWhole};
 
 use crate::status::Status;
 use crate::words::{Wanted, read_words};
 use adf_model::AdfError;
 use cg_io::{Device, Sink, Source};
+use layout_report::{Report, lint_file, map_file};
 use plain_library::{Library, Shelf, make_fresh};
 use session::{Ended, print, run_session};
 use std::alloc::Global;
@@ -62,8 +63,7 @@ fn init_on<D: Device, O: Sink>(number: u32, shelf: &mut Shelf<D>, output: &mut O
     requires whole { IsWhole shelf.old }
     requires shelf { IsShelf shelf.old }
     requires there { number < length (slots_of D.state shelf.old) }
-    ensures init { (device : DeviceState) × (after : DeviceState) × (device_at (slots_of D.state shelf.old) number ≡ Some device) × (slots_of D.state shelf.new ≡ with_device (slots_of D.state shelf.old) number (Some after))
-        × InitEnds result device after (O.taken output.old) (O.taken output.new) (O.faults output.old) (O.faults output.new) }
+    ensures init { OnDevice number (λ device after. InitEnds result device after (O.taken output.old) (O.taken output.new) (O.faults output.old) (O.faults output.new)) (slots_of D.state shelf.old) (slots_of D.state shelf.new) }
     ensures shelf { IsShelf shelf.new }
 {
     let Some(taken) = shelf.take(number) else {
@@ -73,6 +73,63 @@ fn init_on<D: Device, O: Sink>(number: u32, shelf: &mut Shelf<D>, output: &mut O
     let status = init(&mut device, output);
     shelf.put_back(number, device);
     status
+}
+
+// The status with which a report ends.
+fn report_status_of(how: Report) -> Status
+    ensures { result ≡ report_status how }
+{
+    match how {
+        Report::Done => Status::Done,
+        Report::Broken => Status::No,
+        Report::DeviceFault => Status::DeviceFault,
+        Report::SinkFault => Status::SinkFault,
+        Report::Memory => Status::Memory,
+    }
+}
+
+// The linter's verdict on the file of a device.
+#[tactic(auto, using(plain_library::proofs::ShelfSlots::taken_and_put_back))]
+fn lint_on<D: Device, O: Sink>(
+    alloc: Global,
+    number: u32,
+    shelf: &mut Shelf<D>,
+    output: &mut O,
+) -> Status
+    requires whole { IsWhole shelf.old }
+    requires shelf { IsShelf shelf.old }
+    requires there { number < length (slots_of D.state shelf.old) }
+    ensures lint { OnDevice number (λ device after. Reports Linted result device after (O.taken output.old) (O.taken output.new) (O.faults output.old) (O.faults output.new)) (slots_of D.state shelf.old) (slots_of D.state shelf.new) }
+    ensures shelf { IsShelf shelf.new }
+{
+    let Some(taken) = shelf.take(number) else {
+        unreachable!()
+    };
+    let (device, how) = lint_file(alloc, taken, output);
+    shelf.put_back(number, device);
+    report_status_of(how)
+}
+
+// The map of the file of a device.
+#[tactic(auto, using(plain_library::proofs::ShelfSlots::taken_and_put_back))]
+fn map_on<D: Device, O: Sink>(
+    alloc: Global,
+    number: u32,
+    shelf: &mut Shelf<D>,
+    output: &mut O,
+) -> Status
+    requires whole { IsWhole shelf.old }
+    requires shelf { IsShelf shelf.old }
+    requires there { number < length (slots_of D.state shelf.old) }
+    ensures map { OnDevice number (λ device after. Reports Mapped result device after (O.taken output.old) (O.taken output.new) (O.faults output.old) (O.faults output.new)) (slots_of D.state shelf.old) (slots_of D.state shelf.new) }
+    ensures shelf { IsShelf shelf.new }
+{
+    let Some(taken) = shelf.take(number) else {
+        unreachable!()
+    };
+    let (device, how) = map_file(alloc, taken, output);
+    shelf.put_back(number, device);
+    report_status_of(how)
 }
 
 // The status with which a session ends.
@@ -135,6 +192,8 @@ pub fn run_on<D: Device, I: Source, O: Sink>(
     match read_words(words, shelf) {
         Wanted::Nothing => say_usage(output),
         Wanted::Init(number) => init_on(number, shelf, output),
+        Wanted::Lint(number) => lint_on(alloc, number, shelf, output),
+        Wanted::Map(number) => map_on(alloc, number, shelf, output),
         Wanted::Session => session_status_of(session_on(alloc, shelf, input, output)),
     }
 }

@@ -1,8 +1,8 @@
 //! What the words of the command line ask for.
 
-ghost use Rattle.std.specs.Prelude.{◌≡◌, ◌<◌, length, map, string_bytes, MatchOption, IfSome, Some, None};
+ghost use Rattle.std.specs.Prelude.{◌≡◌, ◌<◌, length, map, string_bytes, IfSome};
 ghost use Rattle.std.specs.List.{list_all};
-ghost use Rattle.cgns_tool.specs.Tool.{IsOnShelf, init_file, init_number, is_file_word, is_session, names_device, wanted};
+ghost use Rattle.cgns_tool.specs.Tool.{IsOnShelf, command_on, file_number, is_file_word, is_session, names_device, one_file_wanted, wanted};
 ghost use Rattle.plain_library.specs.Shelf.{slots_of, IsShelf};
 
 use cg_io::Device;
@@ -15,6 +15,10 @@ pub enum Wanted {
     Nothing,
     /// The fresh file on the device of this number.
     Init(u32),
+    /// The linter's verdict on that device's file.
+    Lint(u32),
+    /// The extents of that device's file.
+    Map(u32),
     /// A session over the files of the shelf.
     Session,
 }
@@ -25,31 +29,46 @@ fn may_name(word: &str) -> bool
     !word.is_empty() && !word.starts_with("-")
 }
 
-// The file of `init FILE`, where the words are that.
-fn file_of(words: &[String]) -> Option<&str>
-    ensures { MatchOption result (init_file (map string_bytes words.now) ≡ None) (λ file. init_file (map string_bytes words.now) ≡ Some file.now) }
+// The number of the device of a file, if the word may name one.
+fn file_number<D: Device>(shelf: &Shelf<D>, word: &str) -> Option<u32>
+    requires { IsShelf shelf.now }
+    ensures number { result ≡ file_number (slots_of D.state shelf.now) word.now }
+    ensures stands { IfSome result (λ n. n < length (slots_of D.state shelf.now)) }
 {
-    match words {
-        [command, file] => {
-            if command.as_str() == "init" && may_name(file.as_str()) {
-                Some(file.as_str())
-            } else {
-                None
-            }
-        }
-        _ => None,
+    if may_name(word) {
+        shelf.number_of(word.as_bytes())
+    } else {
+        None
     }
 }
 
-// The number of the device that `init` is to use.
-fn number_wanted<D: Device>(words: &[String], shelf: &Shelf<D>) -> Option<u32>
-    requires { IsShelf shelf.now }
-    ensures number { result ≡ init_number (map string_bytes words.now) (slots_of D.state shelf.now) }
-    ensures stands { IfSome result (λ n. n < length (slots_of D.state shelf.now)) }
+// The command over one file that has this name.
+fn command_on(command: &str, number: u32) -> Wanted
+    ensures { result ≡ command_on command.now number }
 {
-    match file_of(words) {
-        Some(file) => shelf.number_of(file.as_bytes()),
-        None => None,
+    if command == "init" {
+        Wanted::Init(number)
+    } else if command == "lint" {
+        Wanted::Lint(number)
+    } else if command == "map" {
+        Wanted::Map(number)
+    } else {
+        Wanted::Nothing
+    }
+}
+
+// What is wanted where the words are not those of a session.
+fn one_file_wanted<D: Device>(words: &[String], shelf: &Shelf<D>) -> Wanted
+    requires { IsShelf shelf.now }
+    ensures wanted { result ≡ one_file_wanted (map string_bytes words.now) (slots_of D.state shelf.now) }
+    ensures stands { IsOnShelf result (slots_of D.state shelf.now) }
+{
+    match words {
+        [command, file] => match file_number(shelf, file.as_str()) {
+            Some(number) => command_on(command.as_str(), number),
+            None => Wanted::Nothing,
+        },
+        _ => Wanted::Nothing,
     }
 }
 
@@ -94,8 +113,5 @@ pub fn read_words<D: Device>(words: &[String], shelf: &Shelf<D>) -> Wanted
     if asks_session(words, shelf) {
         return Wanted::Session;
     }
-    match number_wanted(words, shelf) {
-        Some(number) => Wanted::Init(number),
-        None => Wanted::Nothing,
-    }
+    one_file_wanted(words, shelf)
 }
