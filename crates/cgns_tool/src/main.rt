@@ -1,43 +1,50 @@
-//! A tool for CGNS databases in ADF files: `cgns_tool COMMAND WORD..`.
+//! A tool for CGNS databases in ADF files: `cgns_tool COMMAND WORD..`. The program reads the words, makes
+//! devices and streams of the host, and hands them to `run_tool`.
 
 #![tactic(auto)]
 
+ghost use Rattle.std.specs.Prelude.{IfOk};
 ghost use Rattle.plain_library.specs.Shelf.{IsShelf, IsWhole};
-
-#[cfg(test)]
-mod session_tests;
-mod status;
-#[cfg(test)]
-mod tests;
-mod tool;
-mod words;
 
 use adf_model::{AdfError, Text};
 use cg_host::{HostDevice, HostSink, HostSource};
 use cg_io::Device;
 use plain_library::Shelf;
-use status::Status;
 use std::alloc::AllocError;
 use std::env;
+use std::io::ErrorKind;
 use std::process::ExitCode;
-use tool::run_tool;
+use tool_commands::{Status, run_tool};
 
-// More devices than a command line can name.
-const MOST_DEVICES: usize = 1_000_000;
+// So many devices have numbers on a shelf.
+const MOST_DEVICES: usize = u32::MAX as usize;
 
-// One device for each word after the first, under that word; a repeated word once.
-fn run(rt: &HostRuntime) -> Result<Status, AllocError> {
-    let alloc = rt.alloc();
-    let mut words = Vec::new(alloc);
-    if let Ok(args) = env::args(rt) {
-        for word in args.skip(1) {
-            words.push(word)?;
+// The words behind the program's name. A command line that is not text as a whole has none.
+fn read_words(rt: &HostRuntime) -> Result<Vec<String>, AllocError> {
+    let mut words = Vec::new(rt.alloc());
+    match env::args(rt) {
+        Ok(args) => {
+            for word in args.skip(1) {
+                words.push(word)?;
+            }
         }
+        Err(error) if error.kind() == ErrorKind::OutOfMemory => return Err(AllocError),
+        Err(_) => {}
     }
+    Ok(words)
+}
+
+// One device for each word after the first, under that word; a repeated word once. A word past the last
+// number stays without a device, so that the words are not right.
+fn shelf_of(rt: &HostRuntime, words: &[String]) -> Result<Shelf<Box<dyn Device>>, AllocError>
+    ensures whole { IfOk result IsWhole }
+    ensures shelf { IfOk result IsShelf }
+{
+    let alloc = rt.alloc();
     let mut shelf = Shelf::new(alloc);
     'shelving: for word in words.iter().skip(1) {
         if shelf.len() >= MOST_DEVICES {
-            return Err(AllocError);
+            return Ok(shelf);
         }
         let name = Text::new(word.as_bytes().to_vec(alloc)?);
         let device: Box<dyn Device> = Box::new(alloc, HostDevice::new(rt.clone()?, word.clone()?))?;
@@ -45,9 +52,16 @@ fn run(rt: &HostRuntime) -> Result<Status, AllocError> {
             return Err(AllocError);
         }
     }
+    Ok(shelf)
+}
+
+// Runs the command of the words on files, standard input and standard output.
+fn run(rt: &HostRuntime) -> Result<Status, AllocError> {
+    let words = read_words(rt)?;
+    let mut shelf = shelf_of(rt, &words)?;
     let mut input = HostSource::new(rt.clone()?);
     let mut output = HostSink::new(rt.clone()?);
-    Ok(run_tool(alloc, &words, &mut shelf, &mut input, &mut output))
+    Ok(run_tool(rt.alloc(), &words, &mut shelf, &mut input, &mut output))
 }
 
 fn main(rt: HostRuntime) -> ExitCode {

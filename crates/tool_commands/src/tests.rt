@@ -3,7 +3,7 @@
 ghost use Rattle.std.specs.Prelude.{◌≡◌, ◌≤◌, length, IfOk};
 
 use crate::status::Status;
-use crate::tool::{run_on, run_tool};
+use crate::commands::{run_on, run_tool};
 use adf_model::{AdfError, Text};
 use cg_io::{Device, MemoryDevice, MemorySink, MemorySource};
 use plain_library::Shelf;

@@ -2,7 +2,7 @@
 
 ghost use Rattle.std.specs.Prelude.{◌≡◌, ◌<◌, length, map, string_bytes, IfSome};
 ghost use Rattle.std.specs.List.{list_all};
-ghost use Rattle.cgns_tool.specs.Tool.{IsOnShelf, command_on, file_number, is_file_word, is_session, names_device, one_file_wanted, wanted};
+ghost use Rattle.tool_commands.specs.Tool.{IsOnShelf, command_on, file_number, is_file_word, is_session, names_device, one_file_wanted, wanted};
 ghost use Rattle.plain_library.specs.Shelf.{slots_of, IsShelf};
 
 use cg_io::Device;

@@ -2,8 +2,8 @@ use Rattle.std.proofs.Common.{◌≡◌, map, drop}
 use Rattle.std.specs.Prelude.{string_bytes}
 use Rattle.std.specs.List.{list_all}
 use Rattle.plain_library.specs.Shelf.{slots_of}
-use Rattle.cgns_tool.specs.Tool.{names_device}
-use Rattle.cgns_tool.proofs.words.are_on.Given as goal
+use Rattle.tool_commands.specs.Tool.{names_device}
+use Rattle.tool_commands.proofs.words.are_on.Given as goal
 
 -- all words so far are on the shelf
 abbrev pub invariant-loop-word : goal.invariant-loop-word

@@ -19,11 +19,11 @@ use Rattle.layout_report.specs.declared.Report.TheVariants as report
 use Rattle.session.specs.Session.{Scene, HasRun, IsBounded}
 use Rattle.session.specs.declared.session.Ended.{Ended}
 use Rattle.session.specs.declared.session.Ended.TheVariants as ended
-use Rattle.cgns_tool.specs.Printed.{line, EndsWith}
-use Rattle.cgns_tool.specs.declared.status.Status.{Status}
-use Rattle.cgns_tool.specs.declared.status.Status.TheVariants as status
-use Rattle.cgns_tool.specs.declared.words.Wanted.{Wanted}
-use Rattle.cgns_tool.specs.declared.words.Wanted.TheVariants as asks
+use Rattle.tool_commands.specs.Printed.{line, EndsWith}
+use Rattle.tool_commands.specs.declared.status.Status.{Status}
+use Rattle.tool_commands.specs.declared.status.Status.TheVariants as status
+use Rattle.tool_commands.specs.declared.words.Wanted.{Wanted}
+use Rattle.tool_commands.specs.declared.words.Wanted.TheVariants as asks
 
 abbrev pub usage : List ℕ
 usage = line (codes "usage: cgns_tool COMMAND WORD..")

@@ -1,8 +1,8 @@
 //! The commands.
 
 ghost use Rattle.std.specs.Prelude.{◌≡◌, ◌<◌, length, map, string_bytes};
-ghost use Rattle.cgns_tool.specs.Printed.{EndsWith};
-ghost use Rattle.cgns_tool.specs.Tool.{InitEnds, OnDevice, Reports, RunEnds, SessionEnds, init_line, init_status, report_status, session_status, usage, wanted};
+ghost use Rattle.tool_commands.specs.Printed.{EndsWith};
+ghost use Rattle.tool_commands.specs.Tool.{InitEnds, OnDevice, Reports, RunEnds, SessionEnds, init_line, init_status, report_status, session_status, usage, wanted};
 ghost use Rattle.layout_report.specs.Reports.{Linted, Mapped};
 ghost use Rattle.plain_library.specs.Shelf.{slots_of, IsShelf, IsWhole};
 

@@ -3,8 +3,8 @@ use Rattle.plain_library.specs.Library.{files_of, devices_of, shelf_files, shelf
 use Rattle.plain_library.specs.Shelf.{slots_of}
 use Rattle.plain_library.specs.declared.shelf.Shelf.{Shelf}
 use Rattle.plain_library.proofs.ShelfLaws.{slot_names}
-use Rattle.cgns_tool.proofs.Sessions.{ended_so}
-use Rattle.cgns_tool.proofs.tool.session_on.Goals as goal
+use Rattle.tool_commands.proofs.Sessions.{ended_so}
+use Rattle.tool_commands.proofs.commands.session_on.Goals as goal
 
 pub returns-clause-session : goal.returns-clause-session
 returns-clause-session g c =

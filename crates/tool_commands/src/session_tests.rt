@@ -2,7 +2,7 @@
 
 use crate::status::Status;
 use crate::tests::{device_of, text_of, words_of};
-use crate::tool::{run_on, run_tool};
+use crate::commands::{run_on, run_tool};
 use adf_model::AdfError;
 use cg_io::{Device, MemoryDevice, MemorySink, MemorySource};
 use plain_library::Shelf;

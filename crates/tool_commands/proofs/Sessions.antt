@@ -12,7 +12,7 @@ use Rattle.session.specs.Calls.{names_there}
 use Rattle.session.specs.Session.{HasRun, IsBounded}
 use Rattle.session.specs.declared.session.Ended.{Ended}
 use Rattle.session.specs.declared.session.Ended.TheVariants as ended
-use Rattle.cgns_tool.specs.Tool.{Streams, SessionEnds, scene}
+use Rattle.tool_commands.specs.Tool.{Streams, SessionEnds, scene}
 
 unplaced_at : (devices : Devices) (k : ℕ) → device_at (map unplaced devices) k ≡ unplaced (device_at devices k)
 unplaced_at [] k = refl

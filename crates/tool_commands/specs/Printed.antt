@@ -3,8 +3,8 @@ use Rattle.std.specs.Prelude.{◌≡◌, ◌⊎◌, ℕ, List, [], ◌∷◌, �
 use Rattle.std.specs.Io.KnownBytes.{Appends}
 use Rattle.cg_io.specs.Cause.{Rose}
 use Rattle.session.specs.Printed.{AppendsPart}
-use Rattle.cgns_tool.specs.declared.status.Status.{Status}
-use Rattle.cgns_tool.specs.declared.status.Status.TheVariants as status
+use Rattle.tool_commands.specs.declared.status.Status.{Status}
+use Rattle.tool_commands.specs.declared.status.Status.TheVariants as status
 
 -- a text and a line feed
 abbrev pub line : List ℕ → List ℕ

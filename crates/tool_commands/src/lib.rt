@@ -1,0 +1,15 @@
+//! The commands of `cgns_tool`: what the words of a command line ask for, what each command does to the
+//! devices of a shelf, what it prints, and the status with which it ends.
+
+#![tactic(auto)]
+
+mod commands;
+#[cfg(test)]
+mod session_tests;
+mod status;
+#[cfg(test)]
+mod tests;
+mod words;
+
+pub use commands::{run_on, run_tool};
+pub use status::Status;
