@@ -18,6 +18,3 @@ mod words;
 pub use calls::{Answer, Call, OpenMode};
 pub use lines::read_line;
 pub use replies::reply_text;
-
-#[cfg(test)]
-mod tests;

@@ -13,8 +13,6 @@ mod open_file;
 mod places;
 mod shelf;
 mod slots;
-#[cfg(test)]
-mod tests;
 mod texts;
 
 pub use fresh::make_fresh;

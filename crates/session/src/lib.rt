@@ -13,6 +13,3 @@ pub use calls::FileCalls;
 pub use output::print;
 pub use reader::{Found, LineReader, Stopped};
 pub use session::{Ended, run_session};
-
-#[cfg(test)]
-mod tests;

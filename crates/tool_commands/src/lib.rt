@@ -4,11 +4,7 @@
 #![tactic(auto)]
 
 mod commands;
-#[cfg(test)]
-mod session_tests;
 mod status;
-#[cfg(test)]
-mod tests;
 mod words;
 
 pub use commands::{run_on, run_tool};

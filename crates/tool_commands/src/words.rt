@@ -9,7 +9,7 @@ use cg_io::Device;
 use plain_library::Shelf;
 
 /// What the words of the command line ask for.
-#[derive(Clone, Copy, Debug, PartialEq, Eq)]
+#[derive(Clone, Copy)]
 pub enum Wanted {
     /// They are not right.
     Nothing,

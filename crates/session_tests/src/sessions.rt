@@ -1,0 +1,172 @@
+//! What sessions print and how they end where a call of a stream fails, and how lines are found.
+
+ghost use Rattle.std.specs.Prelude.{[]};
+ghost use Rattle.adf_model.specs.Slots.{Files, Devices};
+
+use crate::fixtures::source_of;
+use adf_model::{AdfError, Edit, EditError, Query, Reply, Serials};
+use cg_io::{MemorySink, MemorySource};
+use session::{Ended, FileCalls, Found, LineReader, Stopped, laws, run_session};
+use std::alloc::Global;
+use std::test::Fail;
+
+// Files of which there are none.
+#[derive(Drop)]
+struct NoFiles;
+
+impl FileCalls for NoFiles {
+    ghost files = { λ s. [] };
+
+    ghost devices = { λ s. [] };
+
+    ghost is_ready = { λ s. Unit {0} };
+
+    fn open_new(&mut self, _number: u32, _limit: u64) -> Result<(), AdfError> {
+        Err(AdfError::NoSuchFile)
+    }
+
+    fn close(&mut self, _number: u32) -> Result<(), AdfError> {
+        Err(AdfError::NoSuchFile)
+    }
+
+    fn ask(&mut self, _query: &Query) -> Result<Reply, AdfError> {
+        Err(AdfError::NoSuchFile)
+    }
+
+    fn edit(&mut self, _edits: &[Edit]) -> Result<Serials, EditError> {
+        Err(EditError {
+            at: 0,
+            error: AdfError::NoSuchFile,
+        })
+    }
+}
+
+// A session over some lines: the call of the input and that of the output that fails, from 1, how it ends
+// and what it prints.
+struct Case {
+    lines: &'static [u8],
+    failing_take: Option<u64>,
+    failing_put: Option<u64>,
+    ended: Ended,
+    printed: &'static [u8],
+}
+
+static CASES: [Case; 9] = [
+    Case {
+        lines: b"",
+        failing_take: None,
+        failing_put: None,
+        ended: Ended::Done,
+        printed: b"",
+    },
+    Case {
+        lines: b"# open 0 new 1\n\n\n#",
+        failing_take: None,
+        failing_put: None,
+        ended: Ended::Done,
+        printed: b"",
+    },
+    Case {
+        lines: b"nmae 0.0\n",
+        failing_take: None,
+        failing_put: None,
+        ended: Ended::Done,
+        printed: b"E30 Syntax\n",
+    },
+    Case {
+        lines: b"open 0 new 16\nedit create 0.0 A %\n\nchildren 0.0\nclose 0",
+        failing_take: None,
+        failing_put: None,
+        ended: Ended::Done,
+        printed: b"E06 NoSuchFile\nE06 NoSuchFile at 0\nE06 NoSuchFile\nE06 NoSuchFile\n",
+    },
+    Case {
+        lines: b"open 0 new 0\n close 0\nclose 0",
+        failing_take: None,
+        failing_put: None,
+        ended: Ended::Done,
+        printed: b"E30 Syntax\nE30 Syntax\nE06 NoSuchFile\n",
+    },
+    Case {
+        lines: b"close 0\nnone\nclo",
+        failing_take: Some(1),
+        failing_put: None,
+        ended: Ended::SourceFault,
+        printed: b"",
+    },
+    Case {
+        lines: b"close 0\nnone\nclo",
+        failing_take: Some(2),
+        failing_put: None,
+        ended: Ended::SourceFault,
+        printed: b"E06 NoSuchFile\nE30 Syntax\n",
+    },
+    Case {
+        lines: b"close 0\nnone\nclo",
+        failing_take: None,
+        failing_put: Some(1),
+        ended: Ended::SinkFault,
+        printed: b"",
+    },
+    Case {
+        lines: b"close 0\nnone\nclo",
+        failing_take: None,
+        failing_put: Some(2),
+        ended: Ended::SinkFault,
+        printed: b"E06 NoSuchFile\n",
+    },
+];
+
+fn ends_so(alloc: Global, case: &Case) -> Result<bool, Fail> {
+    let mut input = source_of(alloc, case.lines)?;
+    if let Some(call) = case.failing_take {
+        input.fail_at(call);
+    }
+    let mut output = MemorySink::new(alloc);
+    if let Some(call) = case.failing_put {
+        output.fail_at(call);
+    }
+    let ended = run_session(alloc, &mut NoFiles, &mut input, &mut output);
+    Ok(ended == case.ended && output.taken() == case.printed)
+}
+
+#[test]
+fn each_line_has_its_reply_until_a_stream_fails(rt: HostRuntime) -> Result<(), Fail> {
+    for (at, case) in CASES.iter().enumerate() {
+        assert!(rt; ends_so(rt.alloc(), case)?, "case {at}");
+    }
+    Ok(())
+}
+
+// Whether the next line is found, or not, as wanted; where it is, these are its bytes.
+fn finds(
+    reader: &mut LineReader,
+    source: &mut MemorySource,
+    wanted: Result<Found, Stopped>,
+    line: &[u8],
+) -> bool {
+    reader.next(source) == wanted && (wanted != Ok(Found::Line) || reader.line() == line)
+}
+
+#[test]
+fn lines_are_found_one_by_one(rt: HostRuntime) -> Result<(), Fail> {
+    let alloc = rt.alloc();
+    let mut source = source_of(alloc, b"one\n\ntwo")?;
+    source.fail_at(4);
+    let mut reader = LineReader::new(alloc);
+    for (wanted, line) in [
+        (Ok(Found::Line), b"one".as_slice()),
+        (Ok(Found::Line), b""),
+        (Ok(Found::Line), b"two"),
+        (Ok(Found::End), b""),
+        (Err(Stopped::Source), b""),
+    ] {
+        assert!(rt; finds(&mut reader, &mut source, wanted, line), "{wanted:?}");
+    }
+    Ok(())
+}
+
+#[test]
+fn laws_are_calls() {
+    laws::faults_bound_replies();
+}
