@@ -2,9 +2,10 @@
 use Rattle.std.proofs.Common.{◌≡◌, ◌≢◌, ℕ, zero, suc, ◌-◌, ◌≤◌, ◌<◌, true, false, cond, List, [], ◌∷◌, take, length, nat_eq, option_map, Option, Some, None, refl, sym, ap, subst, ◌∙◌, inl, inr, arith}
 use Rattle.std.specs.Cmp.{nat_eq_equiv}
 use Rattle.std.specs.List.{AllByRecursion, IsDistinct}
-use Rattle.std.specs.Map.{lookup, lookup_entry, remove_entry, keys_of}
+use Rattle.std.specs.Prelude.{IsSome}
+use Rattle.std.specs.Map.{lookup, lookup_entry, remove_entry, set_value, keys_of}
 use Rattle.std.specs.Option.{option_map_or}
-use Rattle.std.proofs.lemmas.Map.{lookup-remove_entry}
+use Rattle.std.proofs.lemmas.Map.{lookup-remove_entry, lookup-set_value, length-set_value}
 use Rattle.std.proofs.lemmas.Bool.{eqb-true}
 use Rattle.std.proofs.lemmas.Bool.Decides.{eqb_tells}
 use Rattle.lru.specs.LruCache.{LruCache, promoted, put_entries}
@@ -122,6 +123,20 @@ module _ {V : Type 0} where
       by : (o : Option (ℕ × V)) → lookup_entry (nat_eq n) es ≡ o → option_map_or (λ e. e ∷ remove_entry (nat_eq n) es) o es ≡ take cap ((n, v) ∷ remove_entry (nat_eq n) es)
       by None was = let none = rw was at value in cc
       by (Some e) was = let told : Some e.1 ≡ Some v = rw was at value in let same : e.1 ≡ v = cc in subst (λ w. e ∷ remove_entry (nat_eq n) es ≡ take cap ((n, w) ∷ remove_entry (nat_eq n) es)) same (found_first n cap e.1 es e fits was)
+
+  removed_written : (n : ℕ) (w : V) (es : List (ℕ × V)) → remove_entry (nat_eq n) (set_value (nat_eq n) es w) ≡ remove_entry (nat_eq n) es
+  removed_written n w [] = refl
+  removed_written n w (e ∷ es) = (elim (nat_eq n e.0) as (λ y. nat_eq n e.0 ≡ y → remove_entry (nat_eq n) (set_value (nat_eq n) (e ∷ es) w) ≡ remove_entry (nat_eq n) (e ∷ es)) [
+    | true ↦ λ t. rw (t, t) refl
+    | false ↦ λ t. rw (t, t) (ap (λ l. e ∷ l) (removed_written n w es))
+  ]) refl
+
+  -- a block that is written over and then used goes first
+  pub written_first : (n cap : ℕ) (v w : V) (es : List (ℕ × V)) → length es ≤ cap → lookup (nat_eq n) es ≡ Some v → promoted (nat_eq n) (set_value (nat_eq n) es w) ≡ take cap ((n, w) ∷ remove_entry (nat_eq n) es)
+  written_first n cap v w es fits is = promoted_first n cap w (set_value (nat_eq n) es w) (rw (length-set_value (nat_eq n) es w) fits) found ∙ ap (λ l. take cap ((n, w) ∷ l)) (removed_written n w es)
+    where
+      found : lookup (nat_eq n) (set_value (nat_eq n) es w) ≡ Some w
+      found = let told = lookup-set_value nat_eq_equiv (nat_eq n) (nat_eq_equiv.congr n) n w es (subst IsSome (sym is) refl) in let same = nat_eq_equiv.refl n in rw same at told
 
   -- a block that is put goes first
   pub put_first : (c : LruCache ℕ V) (n : ℕ) (w : V) → length c.entries ≤ c.cap → 0 < c.cap → put_entries nat_eq c n w ≡ take c.cap ((n, w) ∷ remove_entry (nat_eq n) c.entries)

@@ -6,10 +6,9 @@ ghost use Rattle.cg_io.specs.Device.{Reads, Writes, Gives, with_block, Tears};
 ghost use Rattle.cg_io.specs.Blocks.{ReadsFew};
 ghost use Rattle.block_cache.specs.Cache.{IsCache, IsTouched, device_in, blocks_in, capacity_of};
 
-use crate::entries::{forget, keep, recall};
+use crate::entries::Kept;
 use adf_model::AdfError;
 use cg_io::{BlockFault, Blocks, Device};
-use lru::LruCache;
 use std::alloc::Global;
 use std::num::NonZeroUsize;
 
@@ -17,7 +16,7 @@ use std::num::NonZeroUsize;
 #[derive(Drop)]
 pub struct BlockCache<D: Device> {
     device: D,
-    blocks: LruCache<u32, [u8; 4096]>,
+    blocks: Kept,
 }
 
 impl<D: Device> BlockCache<D> {
@@ -30,7 +29,7 @@ impl<D: Device> BlockCache<D> {
         ensures sound { IfOk result (λ c. IsCache D.state c) }
         ensures refused { IfErr result (λ e. (e.0 ≡ AdfError.Memory) × (e.1 ≡ device)) }
     {
-        match LruCache::new(alloc, NonZeroUsize::new(capacity).unwrap()) {
+        match Kept::new(alloc, NonZeroUsize::new(capacity).unwrap()) {
             Ok(blocks) => Ok(BlockCache { device, blocks }),
             Err(_) => Err((AdfError::Memory, device)),
         }
@@ -81,12 +80,12 @@ impl<D: Device> Blocks for BlockCache<D> {
         ensures kept { OnErr result (blocks_in self.new ≡ blocks_in self.old) }
         ensures capacity { capacity_of self.new ≡ capacity_of self.old }
     {
-        if recall(&mut self.blocks, n, into) {
+        if self.blocks.recall(n, into) {
             return Ok(());
         }
         match self.device.read_block(n, into) {
             Ok(()) => {
-                keep(&mut self.blocks, n, into);
+                self.blocks.keep(n, into);
                 Ok(())
             }
             Err(_) => Err(BlockFault::Read),
@@ -110,11 +109,11 @@ impl<D: Device> Blocks for BlockCache<D> {
     {
         match self.device.write_block(n, from) {
             Ok(()) => {
-                keep(&mut self.blocks, n, from);
+                self.blocks.keep(n, from);
                 Ok(())
             }
             Err(_) => {
-                forget(&mut self.blocks, n);
+                self.blocks.forget(n);
                 Err(BlockFault::Write)
             }
         }
