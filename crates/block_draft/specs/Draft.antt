@@ -1,5 +1,5 @@
 -- What a draft is made of.
-use Rattle.std.specs.Prelude.{ℕ, List}
+use Rattle.std.specs.Prelude.{ℕ, List, length}
 use Rattle.block_draft.specs.declared.draft.Draft.{Draft}
 
 -- the blocks below a draft
@@ -9,3 +9,7 @@ blocks_below draft = draft.blocks
 -- its changed blocks by their numbers, ascending
 abbrev pub changes_in : {B : Type 0} → Draft B → List (ℕ × List ℕ)
 changes_in draft = draft.changed
+
+-- how many of them there are, which wait for a commit
+abbrev pub waiting_in : {B : Type 0} → Draft B → ℕ
+waiting_in draft = length (changes_in draft)

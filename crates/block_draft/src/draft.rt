@@ -4,7 +4,7 @@ ghost use Rattle.cg_io.specs.Cause.{HasCause, Rose};
 ghost use Rattle.cg_io.specs.Device.{Gives, GivesAt};
 ghost use Rattle.cg_io.specs.Blocks.{ReadsFew, blocks_of, Both, Wrote, KeepsOutside};
 ghost use Rattle.block_draft.specs.Changes.{image_of, raised_by, IsPartWritten, AreChanges, ChangesOnly, ChangesWithin};
-ghost use Rattle.block_draft.specs.Draft.{blocks_below, changes_in};
+ghost use Rattle.block_draft.specs.Draft.{blocks_below, changes_in, waiting_in};
 
 use crate::changes::{Block, Changes, patch, patch_slice};
 use cg_io::{BlockFault, Blocks, Space, SpaceFault};
@@ -44,7 +44,7 @@ impl<B: Blocks> Draft<B> {
 
     /// How many blocks are changed.
     pub fn changed(&self) -> usize
-        ensures { result ≡ length (changes_in self.now) }
+        ensures { result ≡ waiting_in self.now }
     {
         self.changed.len()
     }
@@ -58,7 +58,8 @@ impl<B: Blocks> Draft<B> {
         self.changed.clear();
     }
 
-    /// Writes the changed blocks in ascending order, each once, and reads none. Afterwards nothing is changed.
+    /// Writes the changed blocks in ascending order, each once, and reads none. Afterwards nothing is changed. So it writes
+    /// at most as often as there are blocks that wait, and none waits afterwards.
     ///
     /// Where a write fails it stops: the blocks before that one are written, that one has any bytes, and what was to be
     /// written after it is dropped.
@@ -69,6 +70,7 @@ impl<B: Blocks> Draft<B> {
         ensures count { OnOk result ((B.state (blocks_below self.new)).writes ≡ raised_by (length (changes_in self.old)) (B.state (blocks_below self.old)).writes) }
         ensures torn { OnErr result (IsPartWritten (B.state (blocks_below self.old)).held (B.state (blocks_below self.old)).writes (changes_in self.old) (B.state (blocks_below self.new)).held (B.state (blocks_below self.new)).writes) }
         ensures ascend { AreChanges (changes_in self.old) }
+        ensures few { (B.state (blocks_below self.new)).writes ≤ (B.state (blocks_below self.old)).writes + waiting_in self.old }
         ensures empty { changes_in self.new ≡ [] }
         ensures reads { (B.state (blocks_below self.new)).reads ≡ (B.state (blocks_below self.old)).reads }
         ensures cause { HasCause (B.state (blocks_below self.old)).faults (B.state (blocks_below self.new)).faults result }
@@ -91,6 +93,7 @@ fn write_all<B: Blocks>(
     ensures written { OnOk result ((B.state blocks.new).held ≡ image_of (B.state blocks.old).held changes.old.entries) }
     ensures count { OnOk result ((B.state blocks.new).writes ≡ raised_by (length changes.old.entries) (B.state blocks.old).writes) }
     ensures torn { OnErr result (IsPartWritten (B.state blocks.old).held (B.state blocks.old).writes changes.old.entries (B.state blocks.new).held (B.state blocks.new).writes) }
+    ensures few { (B.state blocks.new).writes ≤ (B.state blocks.old).writes + length changes.old.entries }
     ensures reads { (B.state blocks.new).reads ≡ (B.state blocks.old).reads }
     ensures cause { HasCause (B.state blocks.old).faults (B.state blocks.new).faults result }
     ensures lost { HasCause (B.state blocks.old).lost (B.state blocks.new).lost result }
@@ -172,6 +175,8 @@ impl<B: Blocks> Space for Draft<B> {
 
     ghost is_sound = { λ d. B.is_sound d.blocks };
 
+    ghost waiting = { λ d. length d.changed };
+
     /// The bytes from a place on, zeros past the end, by at most one read below for each block that the range touches.
     fn read(&mut self, place: u64, into: &mut [u8]) -> Result<(), SpaceFault>
         requires sound { B.is_sound (blocks_below self.old) }
@@ -182,6 +187,7 @@ impl<B: Blocks> Space for Draft<B> {
         ensures effect { ReadsFew (blocks_of place (length into.old)) (B.state (blocks_below self.old)) (B.state (blocks_below self.new)) }
         ensures cause { HasCause (B.state (blocks_below self.old)).faults (B.state (blocks_below self.new)).faults result }
         ensures fault { IfErr result (λ e. e ≡ SpaceFault.Read) }
+        ensures waiting { waiting_in self.new ≡ waiting_in self.old }
         ensures changed { changes_in self.new ≡ changes_in self.old }
     {
         let mut block = [0; 4096];
@@ -210,6 +216,7 @@ impl<B: Blocks> Space for Draft<B> {
         ensures refused { OnErr result (Both (KeepsOutside place (length from.now)) (image_of (B.state (blocks_below self.old)).held (changes_in self.old)) (image_of (B.state (blocks_below self.new)).held (changes_in self.new))) }
         ensures effect { ReadsFew (blocks_of place (length from.now)) (B.state (blocks_below self.old)) (B.state (blocks_below self.new)) }
         ensures cause { IfErr result (λ e. e ≡ SpaceFault.Read → Rose (B.state (blocks_below self.old)).faults (B.state (blocks_below self.new)).faults) }
+        ensures waiting { waiting_in self.new ≤ waiting_in self.old + blocks_of place (length from.now) }
         ensures changed { ChangesWithin place (length from.now) (changes_in self.old) (changes_in self.new) }
     {
         let mut done = 0;

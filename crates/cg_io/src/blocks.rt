@@ -74,6 +74,9 @@ pub trait Space: Drop {
     /// What it keeps beside the device agrees with it.
     ghost is_sound: { Self → Type 0 };
 
+    /// How many blocks wait to be written to the device.
+    ghost waiting: { Self → ℕ };
+
     /// The bytes from a place on, zeros past the end, by at most one read of the device for each block that the range touches.
     fn read(&mut self, place: u64, into: &mut [u8]) -> Result<(), SpaceFault>
         requires sound { is_sound self.old }
@@ -83,10 +86,11 @@ pub trait Space: Drop {
         ensures image { image self.new ≡ image self.old }
         ensures effect { ReadsFew (blocks_of place (length into.old)) (state self.old) (state self.new) }
         ensures cause { HasCause (state self.old).faults (state self.new).faults result }
-        ensures fault { IfErr result (λ e. e ≡ SpaceFault.Read) };
+        ensures fault { IfErr result (λ e. e ≡ SpaceFault.Read) }
+        ensures waiting { waiting self.new ≡ waiting self.old };
 
     /// Writes over the bytes from a place on, with zeros in a gap before them, and makes as many reads as `read` would. After
-    /// a fault the bytes of the range are any.
+    /// a fault the bytes of the range are any. No block waits anew but those that the range touches.
     fn write(&mut self, place: u64, from: &[u8]) -> Result<(), SpaceFault>
         requires sound { is_sound self.old }
         requires within { place + length from.now ≤ 2 ^ 44 }
@@ -94,5 +98,6 @@ pub trait Space: Drop {
         ensures written { OnOk result (Both (Wrote place from.now) (image self.old) (image self.new)) }
         ensures refused { OnErr result (Both (KeepsOutside place (length from.now)) (image self.old) (image self.new)) }
         ensures effect { ReadsFew (blocks_of place (length from.now)) (state self.old) (state self.new) }
-        ensures cause { IfErr result (λ e. e ≡ SpaceFault.Read → Rose (state self.old).faults (state self.new).faults) };
+        ensures cause { IfErr result (λ e. e ≡ SpaceFault.Read → Rose (state self.old).faults (state self.new).faults) }
+        ensures waiting { waiting self.new ≤ waiting self.old + blocks_of place (length from.now) };
 }

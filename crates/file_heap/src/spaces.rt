@@ -69,6 +69,8 @@ impl Space for Bytes {
 
     ghost is_sound = { λ _. Unit {0} };
 
+    ghost waiting = { λ _. 0 };
+
     fn read(&mut self, place: u64, into: &mut [u8]) -> Result<(), SpaceFault> {
         if self.fails() {
             self.faults = self.faults.saturating_add(1);
