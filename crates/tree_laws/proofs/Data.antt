@@ -1,0 +1,8 @@
+-- Shapes and data of nodes.
+pub mod DataSwitched
+pub mod DataFields
+pub mod ShapeSet
+pub mod DataEnded
+pub mod DataLeft
+pub mod DataPutThere
+pub mod DataApplied

@@ -1,0 +1,7 @@
+-- Nodes that are deleted with all below them.
+pub mod NodesLeft
+pub mod SubtreeWalked
+pub mod DeletedTree
+pub mod SerialOrdered
+pub mod DeletionFollowed
+pub mod Erased

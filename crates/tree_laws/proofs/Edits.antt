@@ -1,0 +1,16 @@
+-- Labels, names, new nodes and links: from what is written to the tree that the file then holds.
+pub mod LabelSet
+pub mod LabelDone
+pub mod NameChanged
+pub mod NewNode
+pub mod NodeJoined
+pub mod NodeWithTable
+pub mod EntryJoined
+pub mod TableJoined
+pub mod LinkFull
+pub mod EditsPlaced
+pub mod Plans
+pub mod PlanNew
+pub mod UnderWay
+pub mod Switched
+pub mod MoreSwitched

@@ -1,0 +1,11 @@
+-- What each step of an edit leaves as it was.
+pub mod LeavingLaws
+pub mod LeavesDirect
+pub mod ListLeaves
+pub mod ListsLeave
+pub mod TableLeaves
+pub mod PartsKept
+pub mod WritesLeft
+pub mod InPlaceLeft
+pub mod PlacedEnds
+pub mod TailsKept

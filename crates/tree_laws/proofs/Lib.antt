@@ -1,0 +1,9 @@
+pub mod Holding
+pub mod Leaving
+pub mod Edits
+pub mod Tables
+pub mod Moves
+pub mod Deletes
+pub mod Data
+pub mod Groups
+pub mod Reading

@@ -1,0 +1,4 @@
+-- Tables of children: longer ones, and entries that move up.
+pub mod TableReplaced
+pub mod ListClosed
+pub mod ListsChanged
