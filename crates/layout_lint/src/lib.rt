@@ -29,10 +29,3 @@ pub use examine::lint;
 pub use owners::{Owned, OwnedExtents, extents, owned_extents};
 pub use paths::path_of;
 pub use verdict::{NodePlace, NodePlaces, Verdict};
-
-#[cfg(test)]
-mod images;
-#[cfg(test)]
-mod layout_tests;
-#[cfg(test)]
-mod tests;

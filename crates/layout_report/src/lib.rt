@@ -24,6 +24,3 @@ pub enum Report {
     /// No memory was left.
     Memory,
 }
-
-#[cfg(test)]
-mod tests;

@@ -1,89 +1,69 @@
-//! Files made by hand and damaged: the rule that is broken then, and where.
+//! Files that break a rule: which, and where.
 
-ghost use Rattle.std.specs.Prelude.{IfOk};
-ghost use Rattle.cg_io.specs.Memory.{device_of};
-ghost use Rattle.block_cache.specs.Cache.{IsCache};
-
-use crate::images::{Image, LEAF, Sample, chain, one_child};
-use crate::{Verdict, lint};
+use crate::images::{Change, Image};
+use crate::samples::{Sample, image_of};
+use adf_model::AdfError;
 use block_cache::BlockCache;
 use cg_io::MemoryDevice;
+use layout_lint::{Verdict, lint};
 use std::alloc::Global;
 use std::process::Abort;
 use std::test::Fail;
 
-/// The bytes over a device whose read of this number, from 1, is to fail, with one block kept.
-pub fn blocks_over(
-    alloc: Global,
-    image: Image,
-    failing: u64,
-) -> Result<BlockCache<MemoryDevice>, Fail>
-    ensures { IfOk result (λ c. IsCache device_of c) }
-{
+/// What the linter says of the bytes, over a device whose read of this number, from 1, is to fail.
+pub fn verdict(alloc: Global, image: Image, failing: u64) -> Result<Verdict, AdfError> {
     let text = image.text();
     if text.items().len() > 1 << 20 {
-        return Err(Fail::from("too long"));
+        return Err(AdfError::Memory);
     }
     let mut device = MemoryDevice::new(alloc, text);
-    device.fail_read(failing)?;
+    match device.fail_read(failing) {
+        Ok(()) => {}
+        Err(_) => return Err(AdfError::Memory),
+    }
     match BlockCache::new(alloc, device, 1) {
-        Ok(blocks) => Ok(blocks),
-        Err((error, _)) => Err(Fail::from(error)),
+        Ok(mut blocks) => lint(alloc, &mut blocks),
+        Err((error, _)) => Err(error),
     }
 }
 
-/// The verdict of the bytes.
-pub fn verdict(alloc: Global, image: Image) -> Result<Verdict, Fail> {
-    let mut blocks = blocks_over(alloc, image, 0)?;
-    Ok(lint(alloc, &mut blocks)?)
-}
+// The rule that the bytes break and where, or 0 and the number of nodes.
+type Outcome = (u8, u64);
 
-/// The rule that the bytes break and where, or 0 and the number of nodes.
-pub fn outcome(alloc: Global, image: Image) -> Result<(u8, u64), Fail> {
-    match verdict(alloc, image)? {
-        Verdict::Sound { nodes, .. } => Ok((0, nodes.items().len() as u64)),
-        Verdict::Unsound { rule, place } => Ok((rule, place)),
+fn outcome_of(verdict: Verdict) -> Outcome {
+    match verdict {
+        Verdict::Sound { nodes, .. } => (0, nodes.items().len() as u64),
+        Verdict::Unsound { rule, place } => (rule, place),
     }
 }
+
+// Whether this is what the linter says of a sample with some changes and the first bytes alone left.
+fn is_told(
+    alloc: Global,
+    sample: Sample,
+    changes: &[Change],
+    length: usize,
+    wanted: Outcome,
+) -> bool {
+    let Ok(mut image) = image_of(alloc, sample) else {
+        return false;
+    };
+    image.change(changes);
+    image.cut(length);
+    match verdict(alloc, image, 0) {
+        Ok(found) => outcome_of(found) == wanted,
+        Err(_) => false,
+    }
+}
+
+// No file of the tests has so many bytes.
+const WHOLE: usize = 1 << 20;
 
 // A change of a file, the rule that is broken then, and where; or 0 and the number of nodes.
 type Damage = (usize, &'static [u8], u8, u64);
 
-fn try_damages(
-    rt: &impl Abort,
-    alloc: Global,
-    sample: Sample,
-    damages: &[Damage],
-) -> Result<(), Fail> {
-    for (at, text, rule, place) in damages {
-        let mut image = sample.image(alloc)?;
-        image.put(*at, text);
-        assert_eq!(rt; outcome(alloc, image)?, (*rule, *place), "at {at}");
-    }
-    Ok(())
-}
-
-// A text and where it is put.
-type Change = (usize, &'static [u8]);
-
 // Changes made together, the rule that is broken then, and where; or 0 and the number of nodes.
 type Case = (&'static [Change], u8, u64);
-
-fn put_all(image: &mut Image, changes: &[Change]) {
-    for (at, text) in changes {
-        image.put(*at, text);
-    }
-}
-
-fn try_cases(rt: &impl Abort, alloc: Global, sample: Sample, cases: &[Case]) -> Result<(), Fail> {
-    for k in 0..cases.len() {
-        let (changes, rule, place) = cases[k];
-        let mut image = sample.image(alloc)?;
-        put_all(&mut image, changes);
-        assert_eq!(rt; outcome(alloc, image)?, (rule, place), "case {k}");
-    }
-    Ok(())
-}
 
 // Of a fresh file: first the examples of the format's document.
 const FRESH: [Damage; 19] = [
@@ -165,13 +145,6 @@ const FRESH_TOGETHER: [Case; 12] = [
     (&[(146, b"00000000021F"), TO_FREE, FREE], 30, 396),
 ];
 
-#[test]
-fn rules_of_a_fresh_file(rt: HostRuntime) -> Result<(), Fail> {
-    assert_eq!(rt; outcome(rt.alloc(), Image::blank(rt.alloc(), 0)?)?, (1, 0));
-    try_damages(&rt, rt.alloc(), Sample::Fresh, &FRESH)?;
-    try_cases(&rt, rt.alloc(), Sample::Fresh, &FRESH_TOGETHER)
-}
-
 // A chunk of twelve bytes behind the root of a wide file.
 const WIDE_END: Change = (146, b"00000000027F");
 
@@ -242,11 +215,6 @@ const FRESH_WIDE: [Case; 12] = [
     ),
 ];
 
-#[test]
-fn rules_of_a_wide_file(rt: HostRuntime) -> Result<(), Fail> {
-    try_cases(&rt, rt.alloc(), Sample::FreshWide, &FRESH_WIDE)
-}
-
 // Of a file with one child.
 const ONE_CHILD: [Damage; 40] = [
     (5, b"X", 2, 0),
@@ -305,19 +273,6 @@ const ONE_CHILD_TOGETHER: [Case; 4] = [
     (&[LINK, (394, b"0100000001")], 22, 334),
 ];
 
-#[test]
-fn rules_of_a_file_with_one_child(rt: HostRuntime) -> Result<(), Fail> {
-    try_damages(&rt, rt.alloc(), Sample::OneChild, &ONE_CHILD)?;
-    try_cases(&rt, rt.alloc(), Sample::OneChild, &ONE_CHILD_TOGETHER)?;
-    // A node within another part has no room.
-    let mut inside = one_child(rt.alloc())?;
-    inside.put(334, b"00000002");
-    inside.put_entry(758, 1, b"Copy", 870);
-    inside.put_node(870, b"Copy", LEAF);
-    assert_eq!(rt; outcome(rt.alloc(), inside)?, (14, 870));
-    Ok(())
-}
-
 // Of a file whose child has two chunks of data.
 const TWO_CHUNKS: [Damage; 17] = [
     (774, b"/", 24, 774),
@@ -361,12 +316,6 @@ const TWO_CHUNKS_TOGETHER: [Case; 8] = [
     (&[CHILD_LINK, (642, b"00000017"), (1257, b"/")], 0, 2),
 ];
 
-#[test]
-fn rules_of_data(rt: HostRuntime) -> Result<(), Fail> {
-    try_damages(&rt, rt.alloc(), Sample::TwoChunks, &TWO_CHUNKS)?;
-    try_cases(&rt, rt.alloc(), Sample::TwoChunks, &TWO_CHUNKS_TOGETHER)
-}
-
 // Of a file with nine children and a free chunk.
 const NINE_CHILDREN: [Damage; 13] = [
     (758, b"X", 29, 758),
@@ -389,23 +338,6 @@ const NINE_CHILDREN_TOGETHER: [Case; 2] = [
     (&[(2856, b"N1"), (3466, b"N1")], 24, 3466),
     (&[(146, b"000000000E74"), (3700, b"y")], 30, 3700),
 ];
-
-#[test]
-fn rules_of_gaps(rt: HostRuntime) -> Result<(), Fail> {
-    try_damages(&rt, rt.alloc(), Sample::NineChildren, &NINE_CHILDREN)?;
-    try_cases(
-        &rt,
-        rt.alloc(),
-        Sample::NineChildren,
-        &NINE_CHILDREN_TOGETHER,
-    )?;
-    try_damages(
-        &rt,
-        rt.alloc(),
-        Sample::TenChildren,
-        &[(334, b"0000000a", 0, 11)],
-    )
-}
 
 // Of a file whose tree order is not that of places, nor that of depth: the root at 600, its child at
 // 1200, that one's child at 300, and the root's other child at 954.
@@ -433,31 +365,69 @@ const THREE_BLOCKS: [Damage; 6] = [
     (9016, b"000000020328", 29, 9000),
 ];
 
+const DAMAGES: [(Sample, &[Damage]); 6] = [
+    (Sample::Fresh, &FRESH),
+    (Sample::OneChild, &ONE_CHILD),
+    (Sample::TwoChunks, &TWO_CHUNKS),
+    (Sample::NineChildren, &NINE_CHILDREN),
+    (Sample::TenChildren, &[(334, b"0000000a", 0, 11)]),
+    (Sample::ThreeBlocks, &THREE_BLOCKS),
+];
+
 #[test]
-fn rules_go_in_the_order_of_the_tree(rt: HostRuntime) -> Result<(), Fail> {
-    try_cases(&rt, rt.alloc(), Sample::MovedRoot, &MOVED_ROOT)?;
-    try_damages(&rt, rt.alloc(), Sample::ThreeBlocks, &THREE_BLOCKS)?;
-    assert_eq!(rt; outcome(rt.alloc(), chain(rt.alloc(), 256)?)?, (0, 256));
-    assert_eq!(rt; outcome(rt.alloc(), chain(rt.alloc(), 257)?)?, (22, 79384));
+fn a_damage_breaks_its_rule(rt: HostRuntime) -> Result<(), Fail> {
+    for (sample, damages) in DAMAGES {
+        for (at, text, rule, place) in damages {
+            let told = is_told(rt.alloc(), sample, &[(*at, *text)], WHOLE, (*rule, *place));
+            assert!(rt; told, "at {at}: {rule} {place}");
+        }
+    }
     Ok(())
 }
 
+const CASES: [(Sample, &[Case]); 9] = [
+    (Sample::Fresh, &FRESH_TOGETHER),
+    (Sample::FreshWide, &FRESH_WIDE),
+    (Sample::OneChild, &ONE_CHILD_TOGETHER),
+    (Sample::TwoChunks, &TWO_CHUNKS_TOGETHER),
+    (Sample::NineChildren, &NINE_CHILDREN_TOGETHER),
+    (Sample::MovedRoot, &MOVED_ROOT),
+    (Sample::NodeInside, &[(&[], 14, 870)]),
+    (Sample::Chain(256), &[(&[], 0, 256)]),
+    (Sample::Chain(257), &[(&[], 22, 79384)]),
+];
+
+#[test]
+fn damages_together_break_the_first_rule(rt: HostRuntime) -> Result<(), Fail> {
+    for (sample, cases) in CASES {
+        for (changes, rule, place) in cases {
+            let told = is_told(rt.alloc(), sample, changes, WHOLE, (*rule, *place));
+            assert!(rt; told, "{rule} {place}");
+        }
+    }
+    Ok(())
+}
+
+// How many bytes are left, the rule that is broken then, and where; or 0 and the number of nodes.
+type Cut = (usize, u8, u64);
+
+const CUTS: [(Sample, &[Cut]); 2] = [
+    (Sample::Fresh, &[(0, 1, 0), (511, 8, 146), (512, 0, 1)]),
+    (Sample::OneChild, &[(1130, 0, 2)]),
+];
+
 #[test]
 fn a_cut_file_is_too_short(rt: HostRuntime) -> Result<(), Fail> {
-    for length in 0..1131 {
-        let mut image = one_child(rt.alloc())?;
-        image.cut(length);
-        let wanted = if length < 266 {
-            (1, 0)
-        } else if length < 1130 {
-            (8, 146)
-        } else {
-            (0, 2)
-        };
-        assert_eq!(rt; outcome(rt.alloc(), image)?, wanted, "at {length}");
+    for (sample, cuts) in CUTS {
+        for (length, rule, place) in cuts {
+            let told = is_told(rt.alloc(), sample, &[], *length, (*rule, *place));
+            assert!(rt; told, "at {length}");
+        }
     }
-    let mut image = Sample::Fresh.image(rt.alloc())?;
-    image.cut(511);
-    assert_eq!(rt; outcome(rt.alloc(), image)?, (8, 146));
+    for length in 0..1130 {
+        let wanted = if length < 266 { (1, 0) } else { (8, 146) };
+        let told = is_told(rt.alloc(), Sample::OneChild, &[], length, wanted);
+        assert!(rt; told, "at {length}");
+    }
     Ok(())
 }
