@@ -240,6 +240,3 @@ pub fn faults_are_placed()
     ensures free { FreeFaultIsPlaced }
     ensures node { NodeFaultIsPlaced }
 {}
-
-#[cfg(test)]
-mod tests;

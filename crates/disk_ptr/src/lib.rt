@@ -168,6 +168,3 @@ pub fn one_spelling()
     ensures apart { (p q : DiskPtr) → IsWritable p → IsWritable q → pointer_text (view p) ≡ pointer_text (view q) → p ≡ q }
     ensures known { (p q : DiskPtr) → HasOffset p → HasOffset q → view p ≡ view q → p ≡ q }
 {}
-
-#[cfg(test)]
-mod tests;
