@@ -1,5 +1,5 @@
 -- The fresh file, as the writer spells it: a header, a free table without lists, and the root alone.
-use Rattle.std.specs.Prelude.{ℕ, ◌+◌, Bool, List, [], ◌∷◌, ◌++◌, replicate, codes, Some}
+use Rattle.std.specs.Prelude.{ℕ, ◌+◌, ◌-◌, Bool, List, [], ◌∷◌, ◌++◌, replicate, codes, Some}
 use Rattle.adf_format.specs.Pointer.{Blank, To}
 use Rattle.adf_format.specs.Fields.{text_field}
 use Rattle.adf_format.specs.declared.fields.TheConstants.{HEADER_CREATED, HEADER_MODIFIED, HEADER_SIZES, PRODUCT, CLOSING, FREE_TABLE_PLACE, NODE_NAME, NODE_LABEL}
@@ -46,6 +46,10 @@ fresh_node wide = record {
 -- the bytes up to the last one
 unfoldable pub fresh_text : Bool → List ℕ
 fresh_text wide = header_text (fresh_header wide) ++ free_table_text (replicate 6 Blank) ++ node_text (fresh_node wide)
+
+-- the one block that is written: these bytes, and zeros
+unfoldable pub fresh_block : Bool → List ℕ
+fresh_block wide = fresh_text wide ++ replicate (4095 - fresh_end wide) 0
 
 abbrev pub fresh_placement : Bool → Placement
 fresh_placement wide = record { parts = Some (record no_parts { header = 266 }) ∷ []; heap = record { gaps = []; end = fresh_end wide } }

@@ -11,7 +11,8 @@ use Rattle.adf_model.specs.declared.tree.NodeId.{NodeId}
 use Rattle.adf_model.specs.Edits.{apply, named_nodes}
 use Rattle.adf_model.specs.Slots.{Open, Files, Devices, open_at, device_at}
 use Rattle.adf_model.specs.Calls.{Group, tests_at_entry, resolve, group_of, file_of, file_of_group, group_after, edit_reached, group_step, group_from, edit_group}
-use Rattle.adf_model.specs.Steps.{OthersOnlyRead, Opening, Fresh, Stored, WritesOnce, RefusalWrites, IsOpening, IsEdit, IsGroupRefusal, IsPlacedGroup, IsPlacedRefusal, OfGroup, IsPlaced, IsWithinCost, DropsOne, Call, Opened, Closed, Discarded, Asked, Changed, Skipped, Misread, Step, Run}
+use Rattle.adf_model.specs.Steps.{OthersOnlyRead, Opening, Fresh, Stored, WritesOnce, RefusalWrites, IsOpening, IsEdit, IsGroupRefusal, IsPlacedGroup, IsPlacedRefusal, OfGroup, IsPlaced, IsWithinCost, DropsOne, Call, Opened, Closed, Discarded, Asked, Changed, Skipped, Misread, Step}
+use Rattle.adf_model.specs.Runs.{Run}
 use Rattle.adf_model.specs.Costs.{is_write_fault, opening_cost, cost_from, cost_for, edits_cost, call_cost, RunCosts}
 use Rattle.adf_model.proofs.Basics.{not_true, not_there, same_Some, same_Ok, passed, found, done}
 use Rattle.adf_model.proofs.GroupKeeps.{one_step}
@@ -119,7 +120,7 @@ module _ (one : ℕ) (before now : Devices) where
           (λ apart. other number 0 apart others)
 
   refused_within : (files after : Files) (edits : List Edit) (at : ℕ) (error : AdfError) → IsGroupRefusal files before edits at error now after → IsPlacedRefusal files before edits at error now → Within (if is_write_fault error then edits_cost one files before (edit_group files edits) else 0)
-  refused_within files after edits at WriteFault h placed = group_within files edits h.group h.through (subst (λ f. OthersOnlyRead f before now) (sym h.file) h.others) placed.1
+  refused_within files after edits at WriteFault h placed = group_within files edits h.stop.group h.stop.through (subst (λ f. OthersOnlyRead f before now) (sym h.stop.file) h.stop.others) placed.0
   refused_within files after edits at error h placed = unwritten 0 h.devices_stay
 
   edit_within : (files after : Files) (edits : List Edit) (result : Result (List NodeId) EditError) → IsEdit files before edits result now after → IsPlacedGroup files before edits result now → Within (call_cost one files before (Changed edits result))
@@ -159,12 +160,12 @@ pub run_within : (one : ℕ) (files : Files) (before : Devices) (calls : List Ca
 run_within one files before [] now after cost h = let same = ap (λ (d : Devices). (device_at d one).writes) h.0 in omega (arith, same)
 run_within one files before (call ∷ calls) now after cost h =
     let first = step_within one before h.1 files h.0 call h.3 in
-    let rest = run_within one h.0 h.1 calls now after h.2 h.5 in
-    omega (arith, first, rest, h.4)
+    let rest = run_within one h.0 h.1 calls now after h.2 h.6 in
+    omega (arith, first, rest, h.5)
 
 -- each run has a cost
 pub run_costs : (one : ℕ) (files : Files) (before : Devices) (calls : List Call) (now : Devices) (after : Files) → Run files before calls now after → (cost : ℕ) × RunCosts one files before calls now after cost
 run_costs one files before [] now after h = (0, (h.0, h.1, refl))
 run_costs one files before (call ∷ calls) now after h =
-    let rest = run_costs one h.0 h.1 calls now after h.3 in
-    (call_cost one files before call + rest.0, (h.0, h.1, rest.0, h.2, refl, rest.1))
+    let rest = run_costs one h.0 h.1 calls now after h.4 in
+    (call_cost one files before call + rest.0, (h.0, h.1, rest.0, h.2, h.3, refl, rest.1))

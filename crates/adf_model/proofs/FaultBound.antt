@@ -8,7 +8,8 @@ use Rattle.adf_model.specs.declared.tree.Edit.{Edit}
 use Rattle.adf_model.specs.declared.tree.NodeId.{NodeId}
 use Rattle.adf_model.specs.Tests.{Test, first_refusal}
 use Rattle.adf_model.specs.Slots.{Slot, Files, Devices, slot_at, device_at}
-use Rattle.adf_model.specs.Steps.{Rose, SomeFault, NoCountFell, HasReadCause, IsMoved, close_tests, open_tests, DropsOne, Opening, Fresh, Stored, IsFirstOr, IsOpenRefusal, RefusalWrites, IsOpening, IsGroupRefusal, IsEdit, Call, Opened, Closed, Discarded, Asked, Changed, Skipped, Misread, IsLineError, Step, Run}
+use Rattle.adf_model.specs.Steps.{Rose, SomeFault, NoCountFell, HasReadCause, IsMoved, close_tests, open_tests, DropsOne, Opening, Fresh, Stored, IsFirstOr, IsOpenRefusal, RefusalWrites, IsOpening, IsGroupRefusal, IsEdit, Call, Opened, Closed, Discarded, Asked, Changed, Skipped, Misread, IsLineError, Step}
+use Rattle.adf_model.specs.Runs.{Run}
 use Rattle.adf_model.specs.FaultReplies.{fault_of, fault_in, fault_in_group, fault_reply, fault_replies, total_faults}
 use Rattle.adf_model.proofs.Basics.{not_true, not_there, same_Some}
 
@@ -129,12 +130,12 @@ module _ (before now : Devices) where
   opening_cause files after number opening limit (Err error) h = first_cause files opening (slot_at files number) number error h.0
 
   group_counts : (files after : Files) (edits : List Edit) (at : ℕ) (error : AdfError) → IsGroupRefusal files before edits at error now after → NoCountFell before now
-  group_counts files after edits at WriteFault h = h.others.counts
+  group_counts files after edits at WriteFault h = h.stop.others.counts
   group_counts files after edits at error h = h.devices_stay.counts
 
   group_cause : (files after : Files) (edits : List Edit) (at : ℕ) (error : AdfError) → IsGroupRefusal files before edits at error now after → Caused error
   group_cause files after edits at ReadFault h = h.cause.fault
-  group_cause files after edits at WriteFault h = (h.number, h.failed.faults)
+  group_cause files after edits at WriteFault h = (h.stop.number, h.stop.failed.faults)
   group_cause files after edits at error h = tt
 
   pub edit_counts : (files after : Files) (edits : List Edit) (result : Result (List NodeId) EditError) → IsEdit files before edits result now after → NoCountFell before now
@@ -190,13 +191,13 @@ pub run_counts : (files after : Files) (before now : Devices) (calls : List Call
 run_counts files after before now [] h = same_counts before now h.0
 run_counts files after before now (call ∷ calls) h = λ number.
     let first = step_counts before h.1 files h.0 call h.2 number in
-    let rest = run_counts h.0 after h.1 now calls h.3 number in
+    let rest = run_counts h.0 after h.1 now calls h.4 number in
     record { faults = le_trans first.faults rest.faults; lost = le_trans first.lost rest.lost; writes = le_trans first.writes rest.writes }
 
 pub run_bound : (files after : Files) (before now : Devices) (calls : List Call) → Below now → Run files before calls now after → total_faults before + fault_replies calls ≤ total_faults now
 run_bound files after before now [] below h = stayed before now (same_counts before now h.0)
 run_bound files after before now (call ∷ calls) below h =
-    let rest = run_counts h.0 after h.1 now calls h.3 in
+    let rest = run_counts h.0 after h.1 now calls h.4 in
     let first = step_bound before h.1 files h.0 call (below_before h.1 now rest below) h.2 in
-    let more = run_bound h.0 after h.1 now calls below h.3 in
+    let more = run_bound h.0 after h.1 now calls below h.4 in
     omega (arith, first, more)

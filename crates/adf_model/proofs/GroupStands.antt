@@ -63,7 +63,8 @@ stands_open (Live o) opened e = refl
 stands_open Slot.Broken opened e = refl
 
 refusal_stands : (files : Files) (before now : Devices) (edits : List Edit) (at : ℕ) (error : AdfError) (after : Files) → IsGroupRefusal files before edits at error now after → LeavesStandingsBy error files before now after
-refusal_stands files before now edits at WriteFault after h =
+refusal_stands files before now edits at WriteFault after stops =
+    let h = stops.stop in
     let same : standings h.group.files ≡ standings files = steps_stand 0 (group_of files) h.group edits h.through in
     let live : standing_of (slot_at files h.number) ≡ standing_of (Live h.opened) =
     standing_at files h.number ∙ ap (λ (s : List Standing). slice_index_or s h.number Standing.Absent) (sym same) ∙ sym (standing_at h.group.files h.number)

@@ -63,3 +63,5 @@ pub mod WalkCounts
 pub mod WalkNodes
 pub mod WalkNames
 pub mod CreateStays
+pub mod RunLaws
+pub mod FailedWrites

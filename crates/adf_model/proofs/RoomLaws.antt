@@ -149,7 +149,7 @@ module _ (files : Files) (before : Devices) (edits : List Edit) (count number : 
 
   -- and never written
   pub not_written : (now : Devices) (after : Files) (at : ℕ) → IsEdit files before edits (Err (record { at = at; error = WriteFault })) now after → IsPlacedGroup files before edits (Err (record { at = at; error = WriteFault })) now → ⊥
-  not_written now after at h placed = no_room_for h.group (first_go_on 0 (group_of files) group h.group count edits through h.through) edits h.through placed.2
+  not_written now after at h placed = no_room_for h.stop.group (first_go_on 0 (group_of files) group h.stop.group count edits through h.stop.through) edits h.stop.through placed.1
 
   -- nor refused at a later edit
   pub not_refused_later : (now : Devices) (after : Files) (at : ℕ) (error : AdfError) → count ≤ at → IsEdit files before edits (Err (record { at = at; error = error })) now after → IsPlacedGroup files before edits (Err (record { at = at; error = error })) now → ⊥
@@ -186,7 +186,7 @@ refusal_completes : (files after : Files) (before now : Devices) (edits : List E
     → IsGroupRefusal files before edits at error now after → (error ≡ Memory) ⊎ (edit_group files edits ≡ Err (record { at = at; error = error }))
 refusal_completes files after before now edits at Memory quiet room h = inl refl
 refusal_completes files after before now edits at ReadFault quiet room h = absurd (quiet h.cause.fault.0 h.cause.fault.1)
-refusal_completes files after before now edits at WriteFault quiet room h = absurd (quiet h.number h.failed.faults)
+refusal_completes files after before now edits at WriteFault quiet room h = absurd (quiet h.stop.number h.stop.failed.faults)
 refusal_completes files after before now edits at (Full asked end) quiet room h = absurd (not_over (room (at + 1) h.cause.number h.cause.group h.cause.opened h.cause.through h.cause.file h.cause.live) h.cause.over)
   where
     not_over : recorded_end (device_at before h.cause.number) + 1 + h.cause.group.needed ≤ h.cause.opened.limit * 4096 → h.cause.opened.limit * 4096 < recorded_end (device_at before h.cause.number) + 1 + h.cause.group.needed → ⊥

@@ -72,7 +72,7 @@ moved_keeps tests files slot number (Ok done) after sound good h = subst AreSoun
 moved_keeps tests files slot number (Err error) after sound good h = subst AreSound (sym h.1) sound
 
 refused_group : (files : Files) (before : Devices) (edits : List Edit) (at : ℕ) (error : AdfError) (now : Devices) (after : Files) → AreSound files → IsGroupRefusal files before edits at error now after → AreSound after
-refused_group files before edits at WriteFault now after sound h = subst AreSound (sym h.broken) (sound_with files h.number Slot.Broken sound tt)
+refused_group files before edits at WriteFault now after sound h = subst AreSound (sym h.stop.broken) (sound_with files h.stop.number Slot.Broken sound tt)
 refused_group files before edits at error now after sound h = subst AreSound (sym h.files_stay) sound
 
 group_sound : (files after : Files) → AreSound files → AreTrees after → LeavesOthers files after → AreSound after

@@ -11,12 +11,11 @@ use Rattle.adf_format.specs.Parts.{dimension_digits}
 use Rattle.adf_format.specs.Placement.{Placement, NodeParts, parts_of, live_extents}
 use Rattle.adf_format.specs.Changes.{heap_fields}
 use Rattle.adf_format.proofs.FrameLaws.{field_kept}
-use Rattle.adf_model.specs.declared.error.AdfError.TheVariants.{WriteFault}
 use Rattle.adf_model.specs.declared.tree.Edit.{Edit}
 use Rattle.adf_model.specs.declared.tree.NodeId.{NodeId}
 use Rattle.adf_model.specs.Slots.{Open, Files, Devices, open_at}
 use Rattle.adf_model.specs.Calls.{Group, edit_group}
-use Rattle.adf_model.specs.Steps.{OfGroup, LeavesUntouched, LeavesBesideBlock, IsUntouchedGroup, IsUntouchedRefusal}
+use Rattle.adf_model.specs.Steps.{OfGroup, LeavesUntouched, IsUntouchedGroup}
 use Rattle.adf_model.specs.Untouched.{header_extent, touched_extents, StaysBut, StaysBeside, Stays, KeepsHead, KeepsDims, group_shaped}
 
 -- ---- the head
@@ -77,7 +76,7 @@ dims_stay wide p q old new serial from to keeps here there = keeps serial from t
 -- ---- groups
 
 -- a fact of a group that is not refused
-of_group : (files : Files) (edits : List Edit) (Fact : ℕ → Open → Group → Type 0) (group : Group) (number : ℕ) (opened : Open) → OfGroup files edits Fact → edit_group files edits ≡ Ok group → group.file ≡ Some number → open_at files number ≡ Some opened
+pub of_group : (files : Files) (edits : List Edit) (Fact : ℕ → Open → Group → Type 0) (group : Group) (number : ℕ) (opened : Open) → OfGroup files edits Fact → edit_group files edits ≡ Ok group → group.file ≡ Some number → open_at files number ≡ Some opened
     → Fact number opened group
 of_group files edits Fact group number opened h through file live =
     let of_file = subst (λ r. IfOk r (λ (g : Group). IfSome g.file (λ (n : ℕ). IfSome (open_at files n) (λ (o : Open). Fact n o g)))) through h in
@@ -87,7 +86,3 @@ of_group files edits Fact group number opened h through file live =
 pub group_leaves : (files : Files) (before now : Devices) (edits : List Edit) (created : List NodeId) (group : Group) (number : ℕ) (opened : Open)
     → IsUntouchedGroup files before edits (Ok created) now → edit_group files edits ≡ Ok group → group.file ≡ Some number → open_at files number ≡ Some opened → LeavesUntouched before now number opened group
 group_leaves files before now edits created group number opened = of_group files edits (LeavesUntouched before now) group number opened
-
-pub refusal_leaves : (files : Files) (before now : Devices) (edits : List Edit) (group : Group) (number : ℕ) (opened : Open)
-    → IsUntouchedRefusal files before edits WriteFault now → edit_group files edits ≡ Ok group → group.file ≡ Some number → open_at files number ≡ Some opened → LeavesBesideBlock before now number opened group
-refusal_leaves files before now edits group number opened = of_group files edits (LeavesBesideBlock before now) group number opened

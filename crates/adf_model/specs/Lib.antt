@@ -11,7 +11,9 @@ pub mod Slots
 pub mod Follow
 pub mod Calls
 pub mod Answers
+pub mod Torn
 pub mod Steps
+pub mod Runs
 pub mod Costs
 pub mod Creation
 pub mod OneFile

@@ -150,6 +150,10 @@ end_of_held (Some image) = end_in image
 abbrev pub recorded_end : Device → ℕ
 recorded_end device = end_of_held device.held
 
+-- a file is gone, or its device tells what it holds
+abbrev pub IsToldAt : Slot → Device → Type 0
+IsToldAt slot device = is_gone slot ≡ false → IsSome device.held
+
 -- each file that is not gone has a device that tells what it holds
 abbrev pub IsTold : Files → Devices → Type 0
-IsTold files devices = (number : ℕ) → is_gone (slot_at files number) ≡ false → IsSome (device_at devices number).held
+IsTold files devices = (number : ℕ) → IsToldAt (slot_at files number) (device_at devices number)

@@ -1,5 +1,5 @@
--- What each call may answer, what it leaves, and runs of calls.
-use Rattle.std.specs.Prelude.{◌≡◌, ◌≢◌, ◌⊎◌, ℕ, ◌+◌, ◌-◌, ◌*◌, ◌^◌, ◌<◌, ◌≤◌, min, max, Bool, true, false, IsTrue, not, if◌then◌else◌, slice_set, List, [], ◌∷◌, length, take, drop, replicate, ◌++◌, Option, Some, None, Result, Ok, Err, slice_get, IfSome, IfOk}
+-- What each call may answer, and what it leaves.
+use Rattle.std.specs.Prelude.{◌≡◌, ◌≢◌, ◌⊎◌, ℕ, ◌+◌, ◌-◌, ◌*◌, ◌^◌, ◌<◌, ◌≤◌, min, Bool, true, false, IsTrue, not, if◌then◌else◌, slice_set, List, [], ◌∷◌, length, take, Option, Some, None, IsSome, option_map, Result, Ok, Err, slice_get, IfSome, IfOk}
 use Rattle.adf_model.specs.declared.error.AdfError.{AdfError}
 use Rattle.adf_model.specs.declared.error.AdfError.TheVariants.{Memory, ReadFault, WriteFault, NotOpen, NoSuchFile, AlreadyOpen, NoSuchNode, NotAChild, NoData, BadRange, LinkMissing, LinkChain, NotALink, Layout, NotEmpty, TooLarge, Full, NotFound, Syntax, LineTooLong}
 use Rattle.adf_model.specs.declared.error.EditError.{EditError}
@@ -13,9 +13,11 @@ use Rattle.adf_model.specs.Edits.{named_nodes, file_tests_at_entry, file_step}
 use Rattle.adf_format.specs.Placement.{Placement}
 use Rattle.adf_format.specs.LaysOut.{LaysOut}
 use Rattle.adf_format.specs.FirstFault.{FirstFault}
+use Rattle.adf_format.specs.Fresh.{fresh_block, fresh_placement}
 use Rattle.adf_format.specs.HeapRule.{LimitReached, place_edit}
 use Rattle.adf_model.specs.Placing.{placed_as, place_group, group_cost}
-use Rattle.adf_model.specs.Untouched.{StaysBut, StaysBeside, KeepsHead, KeepsDims, group_shaped, group_touched}
+use Rattle.adf_model.specs.Untouched.{StaysBeside, KeepsRest, KeepsTail, group_touched}
+use Rattle.adf_model.specs.Torn.{TornAt, TornGroup}
 use Rattle.adf_model.specs.Slots.{Open, Slot, Standing, Files, standings, slot_at, is_gone, is_open, open_at, with_slot, Device, Devices, device_at, recorded_end}
 use Rattle.adf_model.specs.Slots.Slot.{Gone, Raw, Saved, Live}
 use Rattle.adf_model.specs.Calls.{tests_of_files, Group, tests_at_entry, edit_group}
@@ -61,17 +63,6 @@ pub record WriteFailed (before now : Device) : Type 0 where
   pub faults : Rose before.faults now.faults
   pub lost : Rose before.lost now.lost
   pub writes : Rose before.writes now.writes
-
--- the bytes of a block: zeros past the end
-abbrev pub block : List ℕ → ℕ → List ℕ
-block bytes number = let piece = take 4096 (drop (number * 4096) bytes) in piece ++ replicate (4096 - length piece) 0
-
--- a write of `wanted` over `before` that failed at a block: the blocks before that one are written, those after it are not
-pub record TornAt (torn : ℕ) (before wanted now : List ℕ) : Type 0 where
-  pub written : (number : ℕ) → number < torn → block now number ≡ block wanted number
-  pub unwritten : (number : ℕ) → torn < number → block now number ≡ block before number
-  pub kept : length before ≤ length now
-  pub grown : length now ≤ max (length before) ((torn + 1) * 4096)
 
 -- the one error wanted, or want of memory
 abbrev pub IsMemoryOr : AdfError → AdfError → Type 0
@@ -207,18 +198,8 @@ pub record RoomStops (files : Files) (devices : Devices) (edits : List Edit) (at
   pub live : open_at files number ≡ Some opened
   pub over : opened.limit * 4096 < recorded_end (device_at devices number) + 1 + group.needed
 
--- the device holds a first part of a layout of the tree that was to be written, which leaves the bytes behind its end
-pub record Torn (before now : List ℕ) (tree : Tree) : Type 0 where
-  pub wanted : List ℕ
-  pub placement : Placement
-  pub laid_out : LaysOut wanted tree placement
-  pub longer : length before ≤ length wanted
-  pub tail : (byte : ℕ) → placement.heap.end < byte → byte < length before → slice_get wanted byte ≡ slice_get before byte
-  pub number : ℕ
-  pub torn : TornAt number before wanted now
-
 -- all edits are done, and the commit failed: the file is broken
-pub record WriteStops (files : Files) (before now : Devices) (edits : List Edit) (at : ℕ) (after : Files) : Type 0 where
+pub record CommitStops (files : Files) (before now : Devices) (edits : List Edit) (at : ℕ) (after : Files) : Type 0 where
   pub group : Group
   pub through : edit_group files edits ≡ Ok group
   pub index : at ≡ length edits
@@ -228,9 +209,16 @@ pub record WriteStops (files : Files) (before now : Devices) (edits : List Edit)
   pub others : OthersOnlyRead (Some number) before now
   pub placed : OthersStayPlaced (Some number) before now
   pub failed : WriteFailed (device_at before number) (device_at now number)
+  pub was : Open
+  pub entered : open_at files number ≡ Some was
   pub opened : Open
   pub live : open_at group.files number ≡ Some opened
-  pub torn : (old new : List ℕ) → (device_at before number).held ≡ Some old → (device_at now number).held ≡ Some new → Torn old new opened.tree
+
+-- and its device holds a first part of what the group makes of it
+pub record WriteStops (files : Files) (before now : Devices) (edits : List Edit) (at : ℕ) (after : Files) : Type 0 where
+  pub stop : CommitStops files before now edits at after
+  pub torn : (old new : List ℕ) → (device_at before stop.number).held ≡ Some old → (device_at now stop.number).held ≡ Some new
+      → TornGroup stop.was.limit stop.was.tree (device_at before stop.number).placement stop.group.done stop.opened.tree old new
 
 -- all edits are done
 pub record Edited (files : Files) (before now : Devices) (edits : List Edit) (created : List NodeId) (after : Files) : Type 0 where
@@ -240,6 +228,7 @@ pub record Edited (files : Files) (before now : Devices) (edits : List Edit) (cr
   pub trees : after ≡ group.files
   pub others : OthersOnlyRead group.file before now
   pub placed : OthersStayPlaced group.file before now
+  pub told : (number : ℕ) → group.file ≡ Some number → IsSome (device_at before number).held → IsSome (device_at now number).held
 
 -- a refusal that leaves all files, under its cause
 pub record Refused (Cause : Type 0) (files : Files) (before now : Devices) (after : Files) : Type 0 where
@@ -303,45 +292,34 @@ pub record HasNoRoom (files : Files) (before : Devices) (edits : List Edit) (cou
   pub full : LimitReached
   pub over : place_group opened.limit opened.tree (device_at before number).placement group.done ≡ Err full
 
--- what a failed write left is a first part of the layout that the heap rule gives
-abbrev pub IsTornAsPlaced : Devices → Devices → ℕ → Open → Group → Type 0
-IsTornAsPlaced before now number opened group =
-    (old new : List ℕ) (done : Open) → (device_at before number).held ≡ Some old → (device_at now number).held ≡ Some new → open_at group.files number ≡ Some done
-    → (torn : Torn old new done.tree) × (place_group opened.limit opened.tree (device_at before number).placement group.done ≡ Ok torn.placement)
-
 -- the heap rule refuses a take of the edits
 abbrev pub IsOverLimit : Devices → ℕ → ℕ → ℕ → Open → Group → Type 0
 IsOverLimit before asked end number opened group =
     place_group opened.limit opened.tree (device_at before number).placement group.done ≡ Err (record { asked = asked; end = end })
 
--- the live parts that no edit of the group may touch stay where they are, with all their bytes; and so do the free bytes of the head, and of the headers whose shapes are not set
+-- what the edits of the group leave of the file's bytes: the live parts that none of them may touch, with their places; the free bytes of the head, of headers and of tables; and the bytes behind the end
 abbrev pub LeavesUntouched : Devices → Devices → ℕ → Open → Group → Type 0
 LeavesUntouched before now number opened group =
-    let p = (device_at before number).placement in
+    let p = (device_at before number).placement in let q = (device_at now number).placement in
     (old new : List ℕ) → (device_at before number).held ≡ Some old → (device_at now number).held ≡ Some new
-    → StaysBut (group_touched opened.limit opened.tree p group.done) opened.tree.wide p (device_at now number).placement old new
-    × KeepsHead old new × KeepsDims (group_shaped group.done) opened.tree.wide p (device_at now number).placement old new
+    → KeepsRest opened.limit opened.tree p group.done q old new × KeepsTail q.heap.end old new
 
--- after a failed write they stay but for the block whose write failed
+-- what a group that is done leaves of the parts that it does not touch; after a failed write this is told by what it leaves torn
+abbrev pub IsUntouchedGroup : Files → Devices → List Edit → Result (List NodeId) EditError → Devices → Type 0
+IsUntouchedGroup files before edits (Ok created) now = OfGroup files edits (LeavesUntouched before now)
+IsUntouchedGroup files before edits (Err refusal) now = Unit {0}
+
+-- after a failed write these parts stay but for the block that is torn
 abbrev pub LeavesBesideBlock : Devices → Devices → ℕ → Open → Group → Type 0
 LeavesBesideBlock before now number opened group =
     let p = (device_at before number).placement in
     (old new : List ℕ) (done : Open) → (device_at before number).held ≡ Some old → (device_at now number).held ≡ Some new → open_at group.files number ≡ Some done
-    → (torn : Torn old new done.tree) × (place_group opened.limit opened.tree p group.done ≡ Ok torn.placement) × StaysBeside torn.number (group_touched opened.limit opened.tree p group.done) opened.tree.wide p old new
-
--- what a group leaves of the parts that it does not touch
-abbrev pub IsUntouchedRefusal : Files → Devices → List Edit → AdfError → Devices → Type 0
-IsUntouchedRefusal files before edits WriteFault now = OfGroup files edits (LeavesBesideBlock before now)
-IsUntouchedRefusal files before edits error now = Unit {0}
-
-abbrev pub IsUntouchedGroup : Files → Devices → List Edit → Result (List NodeId) EditError → Devices → Type 0
-IsUntouchedGroup files before edits (Ok created) now = OfGroup files edits (LeavesUntouched before now)
-IsUntouchedGroup files before edits (Err refusal) now = IsUntouchedRefusal files before edits refusal.error now
+    → (torn : TornGroup opened.limit opened.tree p group.done done.tree old new) × StaysBeside torn.file.number (group_touched opened.limit opened.tree p group.done) opened.tree.wide p old new
 
 -- the edits before a refused one fit; the limit is reached exactly where a take of the refused one is refused
 abbrev pub IsPlacedRefusal : Files → Devices → List Edit → ℕ → AdfError → Devices → Type 0
 IsPlacedRefusal files before edits at (Full asked end) now = OfGroup files (take at edits) (HaveRoom before) × OfGroup files (take (at + 1) edits) (IsOverLimit before asked end)
-IsPlacedRefusal files before edits at WriteFault now = OfGroup files edits (IsTornAsPlaced before now) × OfGroup files edits (IsWithinCost before now) × OfGroup files edits (HaveRoom before)
+IsPlacedRefusal files before edits at WriteFault now = OfGroup files edits (IsWithinCost before now) × OfGroup files edits (HaveRoom before)
 IsPlacedRefusal files before edits at error now = OfGroup files (take at edits) (HaveRoom before)
 
 -- where the parts stand after a group, and how often its device was written
@@ -428,9 +406,12 @@ IsLaidOut (Saved tree) device (Some image) = HasTree image tree
 IsLaidOut (Live opened) device (Some image) = LaysOut image opened.tree device.placement
 IsLaidOut slot device held = Unit {0}
 
+abbrev pub IsLaidOutAt : Slot → Device → Type 0
+IsLaidOutAt slot device = IsLaidOut slot device device.held
+
 -- every tree is laid out by what its device holds
 abbrev pub AllLaidOut : Files → Devices → Type 0
-AllLaidOut files devices = (number : ℕ) → IsLaidOut (slot_at files number) (device_at devices number) (device_at devices number).held
+AllLaidOut files devices = (number : ℕ) → IsLaidOutAt (slot_at files number) (device_at devices number)
 
 -- the tree that a closed file holds, numbered in tree order
 abbrev pub HoldsTree : Slot → Option (List ℕ) → Tree → Type 0
@@ -445,6 +426,11 @@ HoldsTree Slot.Broken held tree = ⊥
 abbrev pub Opens : Opening → Slot → Option (List ℕ) → Open → Type 0
 Opens (Fresh wide) slot held opened = (opened.tree ≡ fresh_tree wide) × (opened.writable ≡ true) × ((image : List ℕ) → held ≡ Some image → image ≡ [])
 Opens (Stored writable) slot held opened = HoldsTree slot held opened.tree × (opened.writable ≡ writable)
+
+-- an opened fresh file: what the device then holds, where it tells, and where the parts stand
+abbrev pub LeavesFresh : Opening → Device → Device → Type 0
+LeavesFresh (Fresh wide) before now = (now.held ≡ option_map (λ (none : List ℕ). fresh_block wide) before.held) × (now.placement ≡ fresh_placement wide)
+LeavesFresh (Stored writable) before now = Unit {0}
 
 -- the cause of a refusal that the files alone do not decide
 abbrev pub IsOpenRefusal : Opening → Slot → Device → Device → AdfError → Type 0
@@ -462,7 +448,7 @@ abbrev pub IsOpening : Files → Devices → ℕ → Opening → ℕ → Result 
 IsOpening files before number opening limit (Ok done) now after =
     (opened : Open) × (first_refusal (open_tests files number) ≡ None) × (opened.limit ≡ limit)
     × Opens opening (slot_at files number) (device_at before number).held opened × (after ≡ with_slot files number (Live opened))
-    × WritesOnce opening number before now
+    × WritesOnce opening number before now × LeavesFresh opening (device_at before number) (device_at now number)
 IsOpening files before number opening limit (Err Memory) now after = (after ≡ files) × OthersOnlyRead None before now
 IsOpening files before number opening limit (Err error) now after =
     IsFirstOr (first_refusal (open_tests files number)) error (IsOpenRefusal opening (slot_at files number) (device_at before number) (device_at now number) error)
@@ -513,11 +499,6 @@ Step files before (Opened number opening limit result) now after = IsOpening fil
 Step files before (Closed number result) now after = IsClose files number result after × OthersOnlyRead None before now × OthersStayPlaced (placed_anew result number) before now
 Step files before (Discarded number result) now after = IsDiscard files number result after × DropsOne number result before now × OthersStayPlaced (placed_anew result number) before now
 Step files before (Asked query result) now after = IsAnswer files query result × HasReadCause before now result × (after ≡ files) × OthersOnlyRead None before now × OthersStayPlaced None before now
-Step files before (Changed edits result) now after = IsEdit files before edits result now after × IsPlacedGroup files before edits result now
+Step files before (Changed edits result) now after = IsEdit files before edits result now after × IsPlacedGroup files before edits result now × IsUntouchedGroup files before edits result now
 Step files before Skipped now after = (now ≡ before) × (after ≡ files)
 Step files before (Misread error) now after = IsLineError error × (now ≡ before) × (after ≡ files)
-
--- calls one after another: from these files and devices to those
-abbrev pub Run : Files → Devices → List Call → Devices → Files → Type 0
-Run files before [] now after = (now ≡ before) × (after ≡ files)
-Run files before (call ∷ calls) now after = (middle : Files) × (between : Devices) × Step files before call between middle × Run middle between calls now after

@@ -1,14 +1,14 @@
 -- Which parts of a file an edit may move or change; all others stay where they are, with all their bytes.
-use Rattle.std.specs.Prelude.{◌≡◌, ◌≢◌, ◌<◌, ◌≤◌, ◌+◌, ◌*◌, ◌/◌, slice_get, ℕ, Bool, List, [], ◌∷◌, ◌++◌, Option, Some, None}
+use Rattle.std.specs.Prelude.{◌≡◌, ◌≢◌, ◌⊎◌, ◌<◌, ◌≤◌, ◌+◌, ◌-◌, ◌*◌, ◌/◌, max, slice_get, slice_index_or, ℕ, Bool, List, [], ◌∷◌, ◌++◌, length, Option, Some, None}
 use Rattle.std.specs.List.{flat_map, Contains}
 use Rattle.std.specs.Result.{result_unwrap_or}
 use Rattle.adf_format.specs.declared.types.Extent.{Extent}
 use Rattle.adf_format.specs.declared.types.ExtentKind.{ExtentKind}
 use Rattle.adf_format.specs.Fields.{field}
-use Rattle.adf_format.specs.Tree.{Tree, parent_of, subtree}
+use Rattle.adf_format.specs.Tree.{Node, Tree, node_at, children_at, parent_of, subtree}
 use Rattle.adf_format.specs.Tiles.{end_of}
 use Rattle.adf_format.specs.Parts.{node_length, dimension_digits}
-use Rattle.adf_format.specs.Placement.{Placement, NodeParts, extent, parts_of, extents_of, table_extents, live_extents}
+use Rattle.adf_format.specs.Placement.{Placement, NodeParts, TablePart, extent, parts_of, extents_of, table_extents, live_extents}
 use Rattle.adf_format.specs.Changes.{KeepsBut, heap_fields}
 use Rattle.adf_format.specs.HeapRule.{parts_at, data_extents, place_edit}
 use Rattle.adf_model.specs.Placing.{placed_as}
@@ -71,6 +71,54 @@ abbrev pub KeepsDims : List ℕ → Bool → Placement → Placement → List �
 KeepsDims shaped wide before after old new =
     (serial : ℕ) (from to : NodeParts) → (Contains shaped serial → ⊥) → parts_of before serial ≡ Some from → parts_of after serial ≡ Some to
     → field new (to.header + 130) (12 * dimension_digits wide) ≡ field old (from.header + 130) (12 * dimension_digits wide)
+
+-- the most that is counted of any of the trees from this one to that behind the last edit
+abbrev pub most_in : (Tree → ℕ) → Tree → List (Edit × Tree) → ℕ
+most_in count tree [] = count tree
+most_in count tree (e ∷ done) = max (count tree) (most_in count e.1 done)
+
+abbrev pub rank_of : Option Node → ℕ
+rank_of None = 0
+rank_of (Some node) = length node.dims
+
+-- the highest rank of a node over a group
+abbrev pub most_dims : Tree → List (Edit × Tree) → ℕ → ℕ
+most_dims tree done serial = most_in (λ (t : Tree). rank_of (node_at t serial)) tree done
+
+-- and where it has the most children
+abbrev pub most_children : Tree → List (Edit × Tree) → ℕ → ℕ
+most_children tree done serial = most_in (λ (t : Tree). length (children_at t serial)) tree done
+
+-- the dimensions past every rank that a node has over a group are kept, those of nodes whose shapes are set too
+abbrev pub KeepsPastRank : Tree → List (Edit × Tree) → Placement → Placement → List ℕ → List ℕ → Type 0
+KeepsPastRank tree done before after old new =
+    (serial : ℕ) (from to : NodeParts) → parts_of before serial ≡ Some from → parts_of after serial ≡ Some to
+    → let past = most_dims tree done serial * dimension_digits tree.wide in let all = 12 * dimension_digits tree.wide in
+    field new (to.header + 130 + past) (all - past) ≡ field old (from.header + 130 + past) (all - past)
+
+-- of a table that stays where it is, the entries behind all that are in use over a group are kept
+abbrev pub KeepsUnused : Tree → List (Edit × Tree) → Placement → Placement → List ℕ → List ℕ → Type 0
+KeepsUnused tree done before after old new =
+    (serial : ℕ) (from to : NodeParts) (table : TablePart) → parts_of before serial ≡ Some from → parts_of after serial ≡ Some to → from.table ≡ Some table → to.table ≡ Some table
+    → let used = 16 + 44 * most_children tree done serial in let all = 16 + 44 * table.entries in
+    field new (table.place + used) (all - used) ≡ field old (table.place + used) (all - used)
+
+-- What a group of edits leaves of the bytes of its file, up to the end.
+pub record KeepsRest (limit : ℕ) (tree : Tree) (p : Placement) (done : List (Edit × Tree)) (q : Placement) (old new : List ℕ) : Type 0 where
+  pub parts : StaysBut (group_touched limit tree p done) tree.wide p q old new
+  pub head : KeepsHead old new
+  pub dims : KeepsDims (group_shaped done) tree.wide p q old new
+  pub past_rank : KeepsPastRank tree done p q old new
+  pub unused : KeepsUnused tree done p q old new
+
+-- no byte is lost, and those behind an end read as before: where the file grew there are zeros
+pub record KeepsTail (end : ℕ) (old new : List ℕ) : Type 0 where
+  pub longer : length old ≤ length new
+  pub tail : (b : ℕ) → end < b → slice_index_or new b 0 ≡ slice_index_or old b 0
+
+-- a byte that a group may write: it stands within the end, and in no live part that the group does not touch
+abbrev pub MayWrite : List Extent → Bool → Placement → ℕ → ℕ → Type 0
+MayWrite touched wide before end b = (b ≤ end) × ((e : Extent) → Contains (live_extents wide before) e → (Contains touched e → ⊥) → (b < e.place) ⊎ (end_of e ≤ b))
 
 -- after a write that failed, each byte of such a part outside one block is as before
 abbrev pub StaysBeside : ℕ → List Extent → Bool → Placement → List ℕ → List ℕ → Type 0

@@ -3,7 +3,8 @@
 
 ghost use Rattle.std.specs.Prelude.{ℕ, ◌+◌, ◌-◌, ◌^◌, ◌<◌, ◌≤◌, List};
 ghost use Rattle.adf_model.specs.Slots.{Files, Devices, device_at};
-ghost use Rattle.adf_model.specs.Steps.{Call, NoCountFell, Step, Run};
+ghost use Rattle.adf_model.specs.Steps.{Call, NoCountFell, Step};
+ghost use Rattle.adf_model.specs.Runs.{Run};
 ghost use Rattle.adf_model.specs.FaultReplies.{fault_reply, fault_replies, total_faults};
 
 /// No count of a device ever falls; and while no count of faults stands at the end of its type, the

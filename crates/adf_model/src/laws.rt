@@ -9,7 +9,9 @@ ghost use Rattle.adf_model.specs.Edits.{IsReached, file_tests_at_entry, apply, f
 ghost use Rattle.adf_model.specs.Slots.{Open, Slot, Files, Device, Devices, recorded_end, slot_at, open_at, device_at, IsTold, AreTrees, AreSound, entry_files};
 ghost use Rattle.adf_model.specs.Follow.{Spot, follow, follow_text, link_text_at};
 ghost use Rattle.adf_model.specs.Calls.{Group, is_live_in, edit_group};
-ghost use Rattle.adf_model.specs.Steps.{Call, Opened, Closed, Discarded, Asked, Changed, Opening, Opens, Step, Run, AllLaidOut, IsEdit, IsPlacedGroup, HasNoRoom, NoFault, IsAnswer, IsFileAnswer, is_query_error, HasReadCause, IsWithinLimit, IsModelEdit, TornAt, IsOpenRefusal};
+ghost use Rattle.adf_model.specs.Steps.{Call, Opened, Closed, Discarded, Asked, Changed, Opening, Opens, Step, AllLaidOut, IsEdit, IsPlacedGroup, HasNoRoom, NoFault, IsAnswer, IsFileAnswer, is_query_error, HasReadCause, IsWithinLimit, IsModelEdit, IsOpenRefusal};
+ghost use Rattle.adf_model.specs.Runs.{Run};
+ghost use Rattle.adf_model.specs.Torn.{TornAt};
 ghost use Rattle.adf_model.specs.Steps.Opening.{Fresh};
 ghost use Rattle.adf_model.specs.Answers.{asked_node, refusal_at_entry, answer};
 ghost use Rattle.adf_model.specs.Tests.{first_refusal};

@@ -13,12 +13,14 @@ pub mod fault_laws;
 pub mod laws;
 mod lists;
 pub mod one_file_laws;
+pub mod run_laws;
 mod spelling;
 pub mod standing_laws;
 mod tree;
 pub mod tree_laws;
 pub mod untouched_laws;
 pub mod walk_laws;
+pub mod write_laws;
 
 pub use adf_format::{DataType, Format, Listing};
 pub use calls::TreeCalls;

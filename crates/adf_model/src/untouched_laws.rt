@@ -1,7 +1,7 @@
 //! Laws of the parts of a file that a group of edits does not touch. No function here does anything:
 //! its contract is the law.
 
-ghost use Rattle.std.specs.Prelude.{◌≡◌, ◌≢◌, ◌<◌, ◌≤◌, ◌+◌, ◌*◌, ◌/◌, [], ℕ, Bool, List, length, slice_get, Some, Ok, Err};
+ghost use Rattle.std.specs.Prelude.{◌≡◌, ◌≢◌, ◌<◌, ◌≤◌, ◌+◌, ◌*◌, ◌/◌, [], ℕ, Bool, List, length, slice_get, slice_index_or, Some, Ok};
 ghost use Rattle.std.specs.List.{Contains};
 ghost use Rattle.adf_format.specs.declared.types.Extent.{Extent};
 ghost use Rattle.adf_format.specs.Fields.{field};
@@ -9,13 +9,12 @@ ghost use Rattle.adf_format.specs.Tree.{Tree};
 ghost use Rattle.adf_format.specs.Tiles.{end_of};
 ghost use Rattle.adf_format.specs.Parts.{dimension_digits};
 ghost use Rattle.adf_format.specs.Placement.{Placement, NodeParts, parts_of, live_extents};
-ghost use Rattle.adf_model.specs.declared.error.AdfError.{AdfError};
 ghost use Rattle.adf_model.specs.declared.tree.Edit.{Edit};
 ghost use Rattle.adf_model.specs.declared.tree.NodeId.{NodeId};
 ghost use Rattle.adf_model.specs.Slots.{Open, Files, Devices, device_at, open_at};
 ghost use Rattle.adf_model.specs.Calls.{Group, edit_group};
-ghost use Rattle.adf_model.specs.Steps.{LeavesUntouched, LeavesBesideBlock, IsUntouchedGroup, IsUntouchedRefusal, Torn};
-ghost use Rattle.adf_model.specs.Untouched.{header_extent, touched_extents, group_touched, StaysBut, StaysBeside, Stays, KeepsHead, KeepsDims, group_shaped};
+ghost use Rattle.adf_model.specs.Steps.{LeavesUntouched, IsUntouchedGroup};
+ghost use Rattle.adf_model.specs.Untouched.{header_extent, touched_extents, group_touched, StaysBut, StaysBeside, Stays, KeepsHead, KeepsDims, KeepsPastRank, KeepsUnused, group_shaped};
 
 /// The dates, the version and the free bytes of the head are kept, and the bytes behind the end
 /// pointer.
@@ -41,8 +40,8 @@ pub fn parts_stay()
         field new (to.header + 130) (12 * dimension_digits wide) ≡ field old (from.header + 130) (12 * dimension_digits wide) }
 {}
 
-/// A group that was done keeps the date of creation and each part that none of its edits touches; one
-/// whose write failed keeps each byte of these outside one block.
+/// A group that was done keeps the date of creation, each part that none of its edits touches, the
+/// dimensions and the entries that are in use over none of them, and the bytes behind the end.
 pub fn groups_leave_the_rest()
     ensures parts { (files : Files) (before now : Devices) (edits : List Edit) (created : List NodeId) (group : Group) (number : ℕ) (opened : Open) (old new : List ℕ) (e : Extent) →
         IsUntouchedGroup files before edits (Ok created) now → edit_group files edits ≡ Ok group → group.file ≡ Some number → open_at files number ≡ Some opened →
@@ -57,20 +56,12 @@ pub fn groups_leave_the_rest()
         (device_at before number).held ≡ Some old → (device_at now number).held ≡ Some new → (Contains (group_shaped group.done) serial → ⊥) →
         parts_of (device_at before number).placement serial ≡ Some from → parts_of (device_at now number).placement serial ≡ Some to →
         field new (to.header + 130) (12 * dimension_digits opened.tree.wide) ≡ field old (from.header + 130) (12 * dimension_digits opened.tree.wide) }
-    ensures torn { (files : Files) (before now : Devices) (edits : List Edit) (group : Group) (number : ℕ) (opened done : Open) (old new : List ℕ) →
-        IsUntouchedRefusal files before edits AdfError.WriteFault now → edit_group files edits ≡ Ok group → group.file ≡ Some number → open_at files number ≡ Some opened → open_at group.files number ≡ Some done →
+    ensures tail { (before now : Devices) (number : ℕ) (opened : Open) (group : Group) (old new : List ℕ) (b : ℕ) → LeavesUntouched before now number opened group →
+        (device_at before number).held ≡ Some old → (device_at now number).held ≡ Some new → (device_at now number).placement.heap.end < b → slice_index_or new b 0 ≡ slice_index_or old b 0 }
+    ensures past_rank { (before now : Devices) (number : ℕ) (opened : Open) (group : Group) (old new : List ℕ) → LeavesUntouched before now number opened group →
         (device_at before number).held ≡ Some old → (device_at now number).held ≡ Some new →
-        (block : ℕ) × ((e : Extent) (b : ℕ) → Contains (live_extents opened.tree.wide (device_at before number).placement) e →
-        (Contains (group_touched opened.limit opened.tree (device_at before number).placement group.done) e → ⊥) → e.place ≤ b → b < end_of e → b / 4096 ≢ block → slice_get new b ≡ slice_get old b) }
-    ensures refused { (files : Files) (before now : Devices) (edits : List Edit) (at : ℕ) (group : Group) (number : ℕ) (opened : Open) → edit_group files edits ≡ Ok group → group.file ≡ Some number → open_at files number ≡ Some opened →
-        IsUntouchedGroup files before edits (Err (record { at = at; error = AdfError.WriteFault })) now → LeavesBesideBlock before now number opened group }
-{}
-
-/// After a write that failed, each byte behind the end of what was to be written is as before, and
-/// each byte of a block that was reached is as wanted, but for the one block whose write failed.
-pub fn torn_files_keep_the_tail()
-    ensures tail { (before now : List ℕ) (tree : Tree) (torn : Torn before now tree) (b : ℕ) → torn.placement.heap.end < b → b < length before → b / 4096 ≢ torn.number →
-        slice_get now b ≡ slice_get before b }
-    ensures written { (before now : List ℕ) (tree : Tree) (torn : Torn before now tree) (b : ℕ) → b < length torn.wanted → b < length now → b / 4096 < torn.number →
-        slice_get now b ≡ slice_get torn.wanted b }
+        KeepsPastRank opened.tree group.done (device_at before number).placement (device_at now number).placement old new }
+    ensures unused { (before now : Devices) (number : ℕ) (opened : Open) (group : Group) (old new : List ℕ) → LeavesUntouched before now number opened group →
+        (device_at before number).held ≡ Some old → (device_at now number).held ≡ Some new →
+        KeepsUnused opened.tree group.done (device_at before number).placement (device_at now number).placement old new }
 {}

@@ -1,8 +1,0 @@
-use Rattle.adf_model.proofs.TornTail.{tail_stays, written_stands}
-use Rattle.adf_model.proofs.untouched_laws.torn_files_keep_the_tail.Goals as goal
-
-pub returns-clause-tail : goal.returns-clause-tail
-returns-clause-tail c = tail_stays
-
-pub returns-clause-written : goal.returns-clause-written
-returns-clause-written c = written_stands
