@@ -1,11 +1,12 @@
 //! What answers queries and edits of trees.
 
-ghost use Rattle.std.specs.Prelude.{◌≡◌, [], ◌∷◌, None};
+ghost use Rattle.std.specs.Prelude.{[], ◌∷◌};
 ghost use Rattle.adf_model.specs.Tests.{first_refusal};
 ghost use Rattle.adf_model.specs.Slots.{Files, Devices, IsTold, AreTrees};
 ghost use Rattle.adf_model.specs.Calls.{tests_of_files};
 ghost use Rattle.adf_model.specs.Answers.{asked_node};
-ghost use Rattle.adf_model.specs.Steps.{OthersOnlyRead, OthersStayPlaced, NoCountFell, IsAnswer, IsRefusedBy, HasReadCause, HasGroupCause, IsGroupRefusedBy, refusal_of_first, IsEdit, IsPlacedGroup, LeavesStandings, RefusalReads};
+ghost use Rattle.adf_model.specs.Steps.{IsAnswer, IsRefusedBy, HasReadCause};
+ghost use Rattle.adf_model.specs.Contracts.{OnlyAsks, Edits};
 
 use crate::error::{AdfError, EditError};
 use crate::lists::Serials;
@@ -27,9 +28,7 @@ pub trait TreeCalls {
         requires ready { is_ready self.old }
         ensures ready { is_ready self.new }
         ensures trees { IsTold (files self.old) (devices self.old) → AreTrees (files self.old) }
-        ensures files_stay { files self.new ≡ files self.old }
-        ensures devices_stay { OthersOnlyRead None (devices self.old) (devices self.new) }
-        ensures placed { OthersStayPlaced None (devices self.old) (devices self.new) }
+        ensures leaves { OnlyAsks (files self.old) (devices self.old) (devices self.new) (files self.new) }
         ensures answer { IsTold (files self.old) (devices self.old) → IsAnswer (files self.old) query.now result }
         ensures refused { IsRefusedBy (first_refusal (tests_of_files (files self.old) (asked_node query.now ∷ []))) result }
         ensures cause { HasReadCause (devices self.old) (devices self.new) result };
@@ -39,13 +38,5 @@ pub trait TreeCalls {
         requires ready { is_ready self.old }
         ensures ready { is_ready self.new }
         ensures trees { IsTold (files self.old) (devices self.old) → AreTrees (files self.old) }
-        ensures edit { IsTold (files self.old) (devices self.old) →
-            IsEdit (files self.old) (devices self.old) edits.now result (devices self.new) (files self.new) }
-        ensures placed { IsTold (files self.old) (devices self.old) →
-            IsPlacedGroup (files self.old) (devices self.old) edits.now result (devices self.new) }
-        ensures standing { LeavesStandings result (files self.old) (devices self.old) (devices self.new) (files self.new) }
-        ensures reads { RefusalReads result (devices self.old) (devices self.new) }
-        ensures counts { NoCountFell (devices self.old) (devices self.new) }
-        ensures refused { IsGroupRefusedBy (refusal_of_first (files self.old) edits.now) result }
-        ensures cause { HasGroupCause (devices self.old) (devices self.new) result };
+        ensures edits { Edits (files self.old) (devices self.old) edits.now result (devices self.new) (files self.new) };
 }
