@@ -14,7 +14,7 @@ pub mod Answers
 pub mod Torn
 pub mod Steps
 pub mod Runs
-pub mod Contracts
+pub mod Promises
 pub mod Costs
 pub mod Creation
 pub mod OneFile

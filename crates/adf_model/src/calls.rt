@@ -6,7 +6,7 @@ ghost use Rattle.adf_model.specs.Slots.{Files, Devices, IsTold, AreTrees};
 ghost use Rattle.adf_model.specs.Calls.{tests_of_files};
 ghost use Rattle.adf_model.specs.Answers.{asked_node};
 ghost use Rattle.adf_model.specs.Steps.{IsAnswer, IsRefusedBy, HasReadCause};
-ghost use Rattle.adf_model.specs.Contracts.{OnlyAsks, Edits};
+ghost use Rattle.adf_model.specs.Promises.{OnlyAsks, Edits};
 
 use crate::error::{AdfError, EditError};
 use crate::lists::Serials;
