@@ -13,4 +13,3 @@ pub mod HeapFacts
 pub mod OrderLaws
 pub mod SpaceLaws
 pub mod CallLaws
-pub mod Apart

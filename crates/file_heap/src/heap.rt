@@ -146,7 +146,7 @@ impl Heap {
     }
 
     /// The gaps, by place.
-    pub(crate) fn gaps(&self) -> &[Extent]
+    pub fn gaps(&self) -> &[Extent]
         ensures { result.now ≡ self.now.now.gaps }
     {
         current(&self.work, &self.kept)

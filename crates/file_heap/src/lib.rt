@@ -10,10 +10,3 @@ mod links;
 mod lists;
 
 pub use heap::Heap;
-
-#[cfg(test)]
-mod conditions;
-#[cfg(test)]
-mod spaces;
-#[cfg(test)]
-mod tests;

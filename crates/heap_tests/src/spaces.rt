@@ -6,26 +6,25 @@ ghost use Rattle.adf_records.specs.View.{HasOffsets, HasFreeOffsets};
 ghost use Rattle.disk_ptr.specs.View.{HasOffset};
 
 use adf_chunks::{
-    Extent, ExtentKind, FreeHead, NodeEntry, Part, encode_entry, encode_free_head, encode_head,
-    tail,
+    Extent, ExtentKind, Extents, FreeHead, NodeEntry, Part, encode_entry, encode_free_head,
+    encode_head, tail,
 };
 use adf_format::{DataType, Format};
 use adf_records::{FileHeader, FreeTable, NodeHeader, encode_free, encode_header, encode_node};
 use cg_io::{Space, SpaceFault};
 use disk_ptr::{DiskPtr, from_place};
 use std::alloc::{AllocError, Global};
-use std::process::Abort;
 use std::test::Fail;
 
 /// Bytes in memory that tell nothing, and whose k-th call fails.
 #[derive(Drop)]
-pub(crate) struct Bytes {
+pub struct Bytes {
     held: Vec<u8>,
-    pub(crate) calls: u64,
-    pub(crate) failing: u64,
+    pub calls: u64,
+    pub failing: u64,
     // what is wanting where a write fails: memory, or the device
-    pub(crate) memory: bool,
-    pub(crate) faults: u64,
+    pub memory: bool,
+    pub faults: u64,
 }
 
 impl Bytes {
@@ -41,7 +40,7 @@ impl Bytes {
     }
 
     /// The same bytes, of which no call fails.
-    pub(crate) fn copy(&self, alloc: Global) -> Result<Bytes, AllocError> {
+    pub fn copy(&self, alloc: Global) -> Result<Bytes, AllocError> {
         Ok(Bytes {
             held: self.held.to_vec(alloc)?,
             calls: 0,
@@ -49,6 +48,26 @@ impl Bytes {
             memory: false,
             faults: 0,
         })
+    }
+
+    /// Puts bytes at a place, and tells whether there was room.
+    pub fn put(&mut self, at: u64, bytes: &[u8]) -> bool {
+        if at >= 1 << 20 || bytes.len() >= 1 << 20 {
+            return false;
+        }
+        overwrite(&mut self.held, at as usize, bytes).is_ok()
+    }
+
+    /// So many bytes at a place.
+    pub fn bytes_at<const N: usize>(&mut self, at: u64) -> Option<[u8; N]> {
+        if at >= 1 << 20 || N >= 1 << 20 {
+            return None;
+        }
+        let mut bytes = [0u8; N];
+        match self.read(at, &mut bytes) {
+            Ok(()) => Some(bytes),
+            Err(_) => None,
+        }
     }
 
     // Counts a call, and whether it is to fail.
@@ -115,14 +134,6 @@ fn overwrite(held: &mut Vec<u8>, at: usize, from: &[u8]) -> Result<(), AllocErro
     Ok(())
 }
 
-/// Puts bytes at a place.
-pub(crate) fn put(rt: &impl Abort, space: &mut Bytes, at: u64, bytes: &[u8]) -> Result<(), Fail> {
-    assert!(rt; at < 1 << 20);
-    assert!(rt; bytes.len() < 1 << 20);
-    overwrite(&mut space.held, at as usize, bytes)?;
-    Ok(())
-}
-
 fn near(at: u64) -> DiskPtr
     requires { at < 2 ^ 44 }
     ensures { HasOffset result }
@@ -179,46 +190,49 @@ const NO_LISTS: FreeTable = FreeTable {
     large_last: DiskPtr::Blank,
 };
 
-/// A free chunk.
-pub(crate) fn free(place: u64, length: u64) -> Extent {
-    Extent {
-        place,
-        length,
-        kind: ExtentKind::FreeChunk,
+/// A gap: its place, its length and its kind.
+pub type Gap = (u64, u64, ExtentKind);
+
+/// Gaps as the heap takes them.
+pub fn extents(alloc: Global, gaps: &[Gap]) -> Result<Extents, AllocError> {
+    let mut items = Vec::with_capacity(alloc, gaps.len())?;
+    for (place, length, kind) in gaps {
+        items.push(Extent {
+            place: *place,
+            length: *length,
+            kind: *kind,
+        })?;
     }
+    Ok(Extents::new(items))
 }
 
-/// A filler.
-pub(crate) fn filler(place: u64, length: u64) -> Extent {
-    Extent {
-        place,
-        length,
-        kind: ExtentKind::Filler,
+/// Whether each byte of a range is this one.
+pub fn holds(space: &mut Bytes, from: u64, to: u64, byte: u8) -> bool {
+    for at in from..to {
+        if space.bytes_at::<1>(at) != Some([byte]) {
+            return false;
+        }
     }
+    true
 }
 
 // Writes a free chunk, and what is behind it in its list.
-fn put_free(
-    rt: &impl Abort,
-    space: &mut Bytes,
-    at: u64,
-    length: u64,
-    next: DiskPtr,
-) -> Result<(), Fail>
+fn put_free(space: &mut Bytes, at: u64, length: u64, next: DiskPtr) -> bool
     requires { HasOffset next }
 {
-    assert!(rt; at < 1 << 20);
-    assert!(rt; length < 1 << 20 && length >= 32);
+    if at >= 1 << 20 || length < 32 || length >= 1 << 20 {
+        return false;
+    }
+    let end = at + length - 4;
     let head = FreeHead {
-        end_tag: near(at + length - 4),
+        end_tag: near(end),
         next,
     };
-    put(rt, space, at, &encode_free_head(head))?;
-    put(rt, space, at + length - 4, &tail(Part::Free))
+    space.put(at, &encode_free_head(head)) && space.put(end, &tail(Part::Free))
 }
 
 // The header and the free table.
-fn put_front(rt: &impl Abort, space: &mut Bytes, end: u64, lists: &FreeTable) -> Result<(), Fail>
+fn put_front(space: &mut Bytes, end: u64, lists: &FreeTable) -> bool
     requires end { end < 2 ^ 44 }
     requires lists { HasFreeOffsets lists.now }
 {
@@ -234,19 +248,11 @@ fn put_front(rt: &impl Abort, space: &mut Bytes, end: u64, lists: &FreeTable) ->
         free_table: near(186),
         extra: *b"000000001000",
     };
-    put(rt, space, 0, &encode_header(&header))?;
-    put(rt, space, 186, &encode_free(lists))
+    space.put(0, &encode_header(&header)) && space.put(186, &encode_free(lists))
 }
 
-/// The file of a root with nine children, made one by one: their first table is a free chunk.
-pub(crate) fn nine_children(rt: &impl Abort, alloc: Global) -> Result<Bytes, Fail> {
-    let mut space = Bytes::with_room(alloc, 3646)?;
-    let lists = FreeTable {
-        small_first: near(758),
-        small_last: near(758),
-        ..NO_LISTS
-    };
-    put_front(rt, &mut space, 3645, &lists)?;
+// The root, with a table of twelve entries.
+fn put_root(space: &mut Bytes) -> bool {
     let root = node(
         b"ADF MotherNode                  ",
         b"Root Node of ADF File           ",
@@ -254,32 +260,61 @@ pub(crate) fn nine_children(rt: &impl Abort, alloc: Global) -> Result<Bytes, Fai
         12,
         near(3098),
     );
-    put(rt, &mut space, 266, &encode_node(&root))?;
-    put(
-        rt,
-        &mut space,
-        3098,
-        &encode_head(Part::SubNodes, near(3642)),
-    )?;
-    let mut at = 3114;
-    for (place, name) in NAMES {
-        let child = node(name, LABEL, 0, 0, DiskPtr::Blank);
-        put(rt, &mut space, place, &encode_node(&child))?;
-        let entry = NodeEntry {
-            name: *name,
-            child: near(place),
-        };
-        put(rt, &mut space, at, &encode_entry(&entry))?;
-        assert!(rt; at < 1 << 20);
-        at += 44;
+    space.put(266, &encode_node(&root))
+        && space.put(3098, &encode_head(Part::SubNodes, near(3642)))
+        && space.put(3642, &tail(Part::SubNodes))
+}
+
+// A child of the root, and its entry.
+fn put_child(space: &mut Bytes, entry_at: u64, place: u64, name: &[u8; 32]) -> bool {
+    if place >= 1 << 20 {
+        return false;
     }
-    put(rt, &mut space, 3642, &tail(Part::SubNodes))?;
-    put_free(rt, &mut space, 758, 372, DiskPtr::Blank)?;
-    Ok(space)
+    let child = node(name, LABEL, 0, 0, DiskPtr::Blank);
+    let entry = NodeEntry {
+        name: *name,
+        child: near(place),
+    };
+    space.put(place, &encode_node(&child)) && space.put(entry_at, &encode_entry(&entry))
+}
+
+fn put_children(space: &mut Bytes) -> bool {
+    let mut entry_at: u64 = 3114;
+    for (place, name) in NAMES {
+        if !put_child(space, entry_at, place, name) {
+            return false;
+        }
+        entry_at = entry_at.saturating_add(44);
+    }
+    true
+}
+
+// A space, where it was made whole.
+fn whole(space: Bytes, made: bool) -> Result<Bytes, Fail> {
+    if made {
+        Ok(space)
+    } else {
+        Err("the file is not made")?
+    }
+}
+
+/// The file of a root with nine children, made one by one: their first table is a free chunk.
+pub fn nine_children(alloc: Global) -> Result<Bytes, Fail> {
+    let mut space = Bytes::with_room(alloc, 3646)?;
+    let lists = FreeTable {
+        small_first: near(758),
+        small_last: near(758),
+        ..NO_LISTS
+    };
+    let made = put_front(&mut space, 3645, &lists)
+        && put_root(&mut space)
+        && put_children(&mut space)
+        && put_free(&mut space, 758, 372, DiskPtr::Blank);
+    whole(space, made)
 }
 
 /// Three free chunks in the small list, of which the last is long, one in the large list that is short, and a filler.
-pub(crate) fn chunks(rt: &impl Abort, alloc: Global) -> Result<Bytes, Fail> {
+pub fn chunks(alloc: Global) -> Result<Bytes, Fail> {
     let mut space = Bytes::with_room(alloc, 10_000)?;
     let lists = FreeTable {
         small_first: near(2000),
@@ -288,23 +323,21 @@ pub(crate) fn chunks(rt: &impl Abort, alloc: Global) -> Result<Bytes, Fail> {
         large_last: near(4000),
         ..NO_LISTS
     };
-    put_front(rt, &mut space, 9999, &lists)?;
-    put_free(rt, &mut space, 2000, 100, near(1000))?;
-    put_free(rt, &mut space, 1000, 200, near(3000))?;
-    put_free(rt, &mut space, 3000, 600, DiskPtr::Blank)?;
-    put_free(rt, &mut space, 4000, 64, DiskPtr::Blank)?;
-    put(rt, &mut space, 1200, &[b'z'; 40])?;
-    put(rt, &mut space, 9996, b"TaiL")?;
-    Ok(space)
+    let made = put_front(&mut space, 9999, &lists)
+        && put_free(&mut space, 2000, 100, near(1000))
+        && put_free(&mut space, 1000, 200, near(3000))
+        && put_free(&mut space, 3000, 600, DiskPtr::Blank)
+        && put_free(&mut space, 4000, 64, DiskPtr::Blank)
+        && space.put(1200, &[b'z'; 40])
+        && space.put(9996, b"TaiL");
+    whole(space, made)
 }
 
 /// The gaps of these.
-pub(crate) fn chunk_gaps() -> [Extent; 5] {
-    [
-        free(1000, 200),
-        filler(1200, 40),
-        free(2000, 100),
-        free(3000, 600),
-        free(4000, 64),
-    ]
-}
+pub const CHUNK_GAPS: [Gap; 5] = [
+    (1000, 200, ExtentKind::FreeChunk),
+    (1200, 40, ExtentKind::Filler),
+    (2000, 100, ExtentKind::FreeChunk),
+    (3000, 600, ExtentKind::FreeChunk),
+    (4000, 64, ExtentKind::FreeChunk),
+];

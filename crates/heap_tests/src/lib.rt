@@ -1,0 +1,15 @@
+//! Tests of the heap over files made by hand.
+#![tactic(auto)]
+
+#[cfg(test)]
+mod conditions;
+#[cfg(test)]
+mod faults;
+#[cfg(test)]
+mod lists;
+#[cfg(test)]
+mod spaces;
+#[cfg(test)]
+mod steps;
+#[cfg(test)]
+mod tests;

@@ -1,0 +1,347 @@
+//! Takes and gives on files made by hand, as tables of steps.
+use crate::spaces::{CHUNK_GAPS, Gap, chunks, nine_children};
+use crate::steps::{Step, run_on};
+use adf_chunks::ExtentKind::{Filler, FreeChunk};
+use std::test::Fail;
+
+/// The one gap of the file with nine children.
+const FIRST_TABLE: [Gap; 1] = [(758, 372, FreeChunk)];
+
+const A_SMALLER_CHUNK: [Step; 6] = [
+    Step::Take { n: 300, place: 758 },
+    Step::Gaps {
+        are: &[(1058, 72, FreeChunk)],
+    },
+    Step::End { is: 3645 },
+    Step::Lists {
+        small: &[(1058, 72)],
+        medium: &[],
+        large: &[],
+    },
+    Step::Last { is: 3645 },
+    Step::Undo,
+];
+
+#[test]
+fn a_take_from_a_chunk_leaves_a_smaller_one(rt: HostRuntime) -> Result<(), Fail> {
+    let space = nine_children(rt.alloc())?;
+    run_on(&rt, rt.alloc(), space, &FIRST_TABLE, 3645, &A_SMALLER_CHUNK)
+}
+
+const BEHIND_THE_END: [Step; 12] = [
+    Step::Full { n: 500, end: 3645 },
+    Step::Undo,
+    Step::Full { n: 451, end: 3645 },
+    Step::Undo,
+    Step::Take {
+        n: 450,
+        place: 3646,
+    },
+    Step::End { is: 4095 },
+    Step::Last { is: 4095 },
+    Step::Lists {
+        small: &[(758, 372)],
+        medium: &[],
+        large: &[],
+    },
+    Step::Full { n: 373, end: 4095 },
+    Step::Undo,
+    Step::End { is: 3645 },
+    Step::Gaps { are: &FIRST_TABLE },
+];
+
+#[test]
+fn a_take_that_fits_nowhere_is_behind_the_end(rt: HostRuntime) -> Result<(), Fail> {
+    let space = nine_children(rt.alloc())?;
+    run_on(&rt, rt.alloc(), space, &FIRST_TABLE, 3645, &BEHIND_THE_END)
+}
+
+const A_FILLER: [Step; 5] = [
+    Step::Take { n: 341, place: 758 },
+    Step::Gaps {
+        are: &[(1099, 31, Filler)],
+    },
+    Step::Lists {
+        small: &[],
+        medium: &[],
+        large: &[],
+    },
+    Step::Bytes {
+        from: 1099,
+        to: 1130,
+        are: b'z',
+    },
+    Step::Bytes {
+        from: 1130,
+        to: 1131,
+        are: b'N',
+    },
+];
+
+const A_LEAST_CHUNK: [Step; 3] = [
+    Step::Take { n: 340, place: 758 },
+    Step::Gaps {
+        are: &[(1098, 32, FreeChunk)],
+    },
+    Step::Lists {
+        small: &[(1098, 32)],
+        medium: &[],
+        large: &[],
+    },
+];
+
+const A_WHOLE_CHUNK: [Step; 3] = [
+    Step::Take { n: 372, place: 758 },
+    Step::Gaps { are: &[] },
+    Step::Lists {
+        small: &[],
+        medium: &[],
+        large: &[],
+    },
+];
+
+#[test]
+fn a_rest_under_32_bytes_is_a_filler(rt: HostRuntime) -> Result<(), Fail> {
+    for steps in [A_FILLER.as_slice(), &A_LEAST_CHUNK, &A_WHOLE_CHUNK] {
+        let space = nine_children(rt.alloc())?;
+        run_on(&rt, rt.alloc(), space, &FIRST_TABLE, 3645, steps)?;
+    }
+    Ok(())
+}
+
+const ANY_PLACE_OF_A_LIST: [Step; 15] = [
+    Step::Lists {
+        small: &[(2000, 100), (1000, 200), (3000, 600)],
+        medium: &[],
+        large: &[(4000, 64)],
+    },
+    // the middle one, and its rest is one with the filler behind it
+    Step::Take {
+        n: 180,
+        place: 1000,
+    },
+    Step::Gaps {
+        are: &[
+            (1180, 60, Filler),
+            (2000, 100, FreeChunk),
+            (3000, 600, FreeChunk),
+            (4000, 64, FreeChunk),
+        ],
+    },
+    Step::Lists {
+        small: &[(2000, 100), (3000, 600)],
+        medium: &[],
+        large: &[(4000, 64)],
+    },
+    // the last one, and its rest is a medium chunk
+    Step::Take {
+        n: 101,
+        place: 3000,
+    },
+    Step::Lists {
+        small: &[(3101, 499), (2000, 100)],
+        medium: &[],
+        large: &[(4000, 64)],
+    },
+    // that behind the first
+    Step::Take {
+        n: 100,
+        place: 2000,
+    },
+    Step::Lists {
+        small: &[(3101, 499)],
+        medium: &[],
+        large: &[(4000, 64)],
+    },
+    // the first and only one
+    Step::Take {
+        n: 499,
+        place: 3101,
+    },
+    Step::Lists {
+        small: &[],
+        medium: &[],
+        large: &[(4000, 64)],
+    },
+    // one in the list of another class
+    Step::Take { n: 32, place: 4000 },
+    Step::Lists {
+        small: &[(4032, 32)],
+        medium: &[],
+        large: &[],
+    },
+    Step::Gaps {
+        are: &[(1180, 60, Filler), (4032, 32, FreeChunk)],
+    },
+    Step::Undo,
+    Step::Gaps { are: &CHUNK_GAPS },
+];
+
+const THE_FIRST_OF_A_LIST: [Step; 3] = [
+    Step::Take {
+        n: 200,
+        place: 1000,
+    },
+    Step::Take { n: 60, place: 2000 },
+    Step::Lists {
+        small: &[(2060, 40), (3000, 600)],
+        medium: &[],
+        large: &[(4000, 64)],
+    },
+];
+
+const GIVEN: [Gap; 8] = [
+    (1000, 200, FreeChunk),
+    (1200, 89, Filler),
+    (2000, 100, FreeChunk),
+    (3000, 600, FreeChunk),
+    (4000, 64, FreeChunk),
+    (4064, 512, FreeChunk),
+    (4600, 511, FreeChunk),
+    (5200, 4096, FreeChunk),
+];
+
+const A_RANGE_IS_GIVEN: [Step; 11] = [
+    Step::Give {
+        place: 5200,
+        n: 4096,
+    },
+    Step::Give {
+        place: 4064,
+        n: 512,
+    },
+    Step::Give { place: 1240, n: 31 },
+    Step::Give {
+        place: 4600,
+        n: 511,
+    },
+    Step::Give { place: 1280, n: 9 },
+    Step::Give { place: 1271, n: 9 },
+    Step::Gaps { are: &GIVEN },
+    Step::Bytes {
+        from: 1200,
+        to: 1289,
+        are: b'z',
+    },
+    Step::Lists {
+        small: &[(4600, 511), (2000, 100), (1000, 200), (3000, 600)],
+        medium: &[(4064, 512)],
+        large: &[(5200, 4096), (4000, 64)],
+    },
+    Step::Undo,
+    Step::Gaps { are: &CHUNK_GAPS },
+];
+
+const ACCEPTED: [Gap; 5] = [
+    (1000, 100, FreeChunk),
+    (1200, 40, Filler),
+    (2000, 100, FreeChunk),
+    (3000, 600, FreeChunk),
+    (4000, 64, FreeChunk),
+];
+
+const WHAT_IS_ACCEPTED: [Step; 14] = [
+    Step::Accept,
+    Step::Take {
+        n: 200,
+        place: 1000,
+    },
+    Step::Give {
+        place: 1000,
+        n: 100,
+    },
+    Step::Accept,
+    Step::Gaps { are: &ACCEPTED },
+    Step::Give {
+        place: 1100,
+        n: 100,
+    },
+    Step::Take {
+        n: 600,
+        place: 3000,
+    },
+    Step::Undo,
+    Step::Gaps { are: &ACCEPTED },
+    Step::Undo,
+    Step::Gaps { are: &ACCEPTED },
+    Step::End { is: 9999 },
+    Step::Undo,
+    Step::Gaps { are: &ACCEPTED },
+];
+
+#[test]
+fn chunks_of_three_lists_are_taken_and_given(rt: HostRuntime) -> Result<(), Fail> {
+    let tables = [
+        ANY_PLACE_OF_A_LIST.as_slice(),
+        &THE_FIRST_OF_A_LIST,
+        &A_RANGE_IS_GIVEN,
+        &WHAT_IS_ACCEPTED,
+    ];
+    for steps in tables {
+        let space = chunks(rt.alloc())?;
+        run_on(&rt, rt.alloc(), space, &CHUNK_GAPS, 9999, steps)?;
+    }
+    Ok(())
+}
+
+/// Gaps of which the bytes do not tell.
+const NOT_THERE: [Gap; 4] = [
+    (1500, 40, FreeChunk),
+    (2000, 100, FreeChunk),
+    (3000, 600, FreeChunk),
+    (4000, 64, FreeChunk),
+];
+
+const NO_LISTS: [Step; 13] = [
+    Step::Layout {
+        n: 40,
+        rule: 30,
+        place: 1500,
+    },
+    Step::Undo,
+    Step::Put {
+        at: 1016,
+        bytes: b"0000000007D0",
+    },
+    Step::Layout {
+        n: 40,
+        rule: 30,
+        place: 1500,
+    },
+    Step::Undo,
+    Step::Put {
+        at: 1016,
+        bytes: b"FFFFFFFF0FFF",
+    },
+    Step::Layout {
+        n: 40,
+        rule: 29,
+        place: 17_592_186_044_415,
+    },
+    Step::Undo,
+    Step::Put {
+        at: 1016,
+        bytes: b"000000001001",
+    },
+    Step::Layout {
+        n: 40,
+        rule: 29,
+        place: 1016,
+    },
+    Step::Undo,
+    Step::Put {
+        at: 190,
+        bytes: b"000000002000",
+    },
+    Step::Layout {
+        n: 40,
+        rule: 10,
+        place: 190,
+    },
+];
+
+#[test]
+fn bytes_that_thread_no_lists_are_refused(rt: HostRuntime) -> Result<(), Fail> {
+    let space = chunks(rt.alloc())?;
+    run_on(&rt, rt.alloc(), space, &NOT_THERE, 9999, &NO_LISTS)
+}
