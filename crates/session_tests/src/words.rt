@@ -1,10 +1,11 @@
 //! Words that are not right touch nothing, and a command touches its own device alone.
 
 ghost use Rattle.plain_library.specs.Shelf.{IsShelf, IsWhole};
-ghost use Rattle.std.specs.Prelude.{IfOk};
+ghost use Rattle.std.specs.Prelude.{IfOk, OnOk};
 
 use crate::fixtures::{device_of, source_of, text_of, words_of};
 use crate::runs::{Fault, Left, Run, wrong_part};
+use adf_model::AdfError;
 use cg_io::{Device, MemorySink};
 use plain_library::Shelf;
 use std::alloc::Global;
@@ -29,7 +30,7 @@ static WRONG_WORDS: [&str; 15] = [
     "--help",
 ];
 
-fn wrong_words(words: &'static str) -> Run {
+fn usage_run(words: &'static str) -> Run {
     Run {
         name: words,
         words,
@@ -50,10 +51,31 @@ fn wrong_words(words: &'static str) -> Run {
 #[test]
 fn wrong_words_print_the_usage_line_and_touch_nothing(rt: HostRuntime) -> Result<(), Fail> {
     for words in &WRONG_WORDS {
-        let wrong = wrong_part(rt.alloc(), &wrong_words(*words))?;
+        let wrong = wrong_part(rt.alloc(), &usage_run(*words))?;
         assert!(rt; wrong.is_empty(), "{words}: {wrong}");
     }
     Ok(())
+}
+
+// Puts one more file on a shelf of at most one.
+fn add_file(
+    alloc: Global,
+    shelf: &mut Shelf<Box<dyn Device>>,
+    name: &[u8],
+    held: &[u8],
+) -> Result<(), Fail>
+    requires { IsWhole shelf.old }
+    ensures whole { IsWhole shelf.new }
+    ensures shelf { OnOk result (IsShelf shelf.new) }
+{
+    if shelf.len() > 1 {
+        return Err(Fail::from(AdfError::TooLarge));
+    }
+    let device: Box<dyn Device> = Box::new(alloc, device_of(alloc, held)?)?;
+    match shelf.add(text_of(alloc, name)?, device) {
+        Ok(_) => Ok(()),
+        Err((error, _)) => Err(Fail::from(error)),
+    }
 }
 
 // Two files, each in a box: `a.adf` holds three bytes, and `b.adf` none.
@@ -62,12 +84,8 @@ fn two_files(alloc: Global) -> Result<Shelf<Box<dyn Device>>, Fail>
     ensures shelf { IfOk result IsShelf }
 {
     let mut shelf = Shelf::new(alloc);
-    for (name, held) in [(b"a.adf".as_slice(), b"abc".as_slice()), (b"b.adf", b"")] {
-        let device: Box<dyn Device> = Box::new(alloc, device_of(alloc, held)?)?;
-        if let Err((error, _)) = shelf.add(text_of(alloc, name)?, device) {
-            return Err(Fail::from(error));
-        }
-    }
+    add_file(alloc, &mut shelf, b"a.adf", b"abc")?;
+    add_file(alloc, &mut shelf, b"b.adf", b"")?;
     Ok(shelf)
 }
 
