@@ -9,13 +9,14 @@ use Rattle.adf_model.specs.declared.error.EditError.{EditError}
 use Rattle.adf_model.specs.declared.tree.Edit.{Edit}
 use Rattle.adf_model.specs.declared.tree.NodeId.{NodeId}
 use Rattle.adf_model.specs.Edits.{apply, named_nodes}
-use Rattle.adf_model.specs.Slots.{Open, Files, Devices, open_at, device_at}
+use Rattle.adf_model.specs.Slots.{Open, Files, Devices, open_at, device_at, IsTold}
 use Rattle.adf_model.specs.Calls.{Group, tests_at_entry, resolve, group_of, file_of, file_of_group, group_after, edit_reached, group_step, group_from, edit_group}
 use Rattle.adf_model.specs.Steps.{OthersOnlyRead, Opening, Fresh, Stored, WritesOnce, RefusalWrites, IsOpening, IsEdit, IsGroupRefusal, IsPlacedGroup, IsPlacedRefusal, OfGroup, IsPlaced, IsWithinCost, DropsOne, Call, Opened, Closed, Discarded, Asked, Changed, Skipped, Misread, Step}
 use Rattle.adf_model.specs.Runs.{Run}
 use Rattle.adf_model.specs.Costs.{is_write_fault, opening_cost, cost_from, cost_for, edits_cost, call_cost, RunCosts}
 use Rattle.adf_model.proofs.Basics.{not_true, not_there, same_Some, same_Ok, passed, found, done}
 use Rattle.adf_model.proofs.GroupKeeps.{one_step}
+use Rattle.adf_model.proofs.RunLaws.{told_for}
 
 -- ---- the file of a group is open before it
 
@@ -156,16 +157,16 @@ module _ (one : ℕ) (before now : Devices) where
       same_devices e = let same = ap (λ (d : Devices). (device_at d one).writes) e in omega (arith, same)
 
 -- and no run does
-pub run_within : (one : ℕ) (files : Files) (before : Devices) (calls : List Call) (now : Devices) (after : Files) (cost : ℕ) → RunCosts one files before calls now after cost → (device_at now one).writes ≤ (device_at before one).writes + cost
-run_within one files before [] now after cost h = let same = ap (λ (d : Devices). (device_at d one).writes) h.0 in omega (arith, same)
-run_within one files before (call ∷ calls) now after cost h =
-    let first = step_within one before h.1 files h.0 call h.3 in
-    let rest = run_within one h.0 h.1 calls now after h.2 h.6 in
-    omega (arith, first, rest, h.5)
+pub run_within : (one : ℕ) (files : Files) (before : Devices) (calls : List Call) (now : Devices) (after : Files) (cost : ℕ) → IsTold files before → RunCosts one files before calls now after cost → (device_at now one).writes ≤ (device_at before one).writes + cost
+run_within one files before [] now after cost told h = let same = ap (λ (d : Devices). (device_at d one).writes) h.0 in omega (arith, same)
+run_within one files before (call ∷ calls) now after cost told h =
+    let first = step_within one before h.1 files h.0 call (h.3.step (told_for files before call told)) in
+    let rest = run_within one h.0 h.1 calls now after h.2 (λ number. h.3.layouts.told number (told number)) h.5 in
+    omega (arith, first, rest, h.4)
 
 -- each run has a cost
 pub run_costs : (one : ℕ) (files : Files) (before : Devices) (calls : List Call) (now : Devices) (after : Files) → Run files before calls now after → (cost : ℕ) × RunCosts one files before calls now after cost
 run_costs one files before [] now after h = (0, (h.0, h.1, refl))
 run_costs one files before (call ∷ calls) now after h =
-    let rest = run_costs one h.0 h.1 calls now after h.4 in
-    (call_cost one files before call + rest.0, (h.0, h.1, rest.0, h.2, h.3, refl, rest.1))
+    let rest = run_costs one h.0 h.1 calls now after h.3 in
+    (call_cost one files before call + rest.0, (h.0, h.1, rest.0, h.2, refl, rest.1))

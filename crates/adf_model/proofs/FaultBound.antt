@@ -1,14 +1,17 @@
 -- Answers of failed reads and writes are at most as many as the faults of the devices.
 use Rattle.std.proofs.Common.{◌≡◌, ℕ, zero, suc, ◌+◌, ◌-◌, ◌^◌, ◌<◌, ◌≤◌, Bool, false, true, List, [], ◌∷◌, refl, sym, subst, arith, le_trans, le_refl}
-use Rattle.std.specs.Prelude.{Option, Some, None, Result, Ok, Err, if◌then◌else◌}
+use Rattle.std.specs.Prelude.{Option, Some, None, IsTrue, Result, Ok, Err, if◌then◌else◌}
 use Rattle.adf_model.specs.declared.error.AdfError.{AdfError}
 use Rattle.adf_model.specs.declared.error.AdfError.TheVariants.{Memory, ReadFault, WriteFault}
 use Rattle.adf_model.specs.declared.error.EditError.{EditError}
 use Rattle.adf_model.specs.declared.tree.Edit.{Edit}
 use Rattle.adf_model.specs.declared.tree.NodeId.{NodeId}
+use Rattle.adf_model.specs.declared.tree.Query.{Query}
 use Rattle.adf_model.specs.Tests.{Test, first_refusal}
-use Rattle.adf_model.specs.Slots.{Slot, Files, Devices, slot_at, device_at}
-use Rattle.adf_model.specs.Steps.{Rose, SomeFault, NoCountFell, HasReadCause, IsMoved, close_tests, open_tests, DropsOne, Opening, Fresh, Stored, IsFirstOr, IsOpenRefusal, RefusalWrites, IsOpening, IsGroupRefusal, IsEdit, Call, Opened, Closed, Discarded, Asked, Changed, Skipped, Misread, IsLineError, Step}
+use Rattle.adf_model.specs.Slots.{Slot, Standing, Files, Devices, slot_at, device_at}
+use Rattle.adf_model.specs.Answers.{asked_node, goes_through_links, may_refuse}
+use Rattle.adf_model.specs.Steps.{Rose, SomeFault, NoCountFell, HasReadFault, HasQueryCause, IsMoved, close_tests, open_tests, DropsOne, Opening, Fresh, Stored, IsFirstOr, IsOpenRefusal, RefusalWrites, IsOpening, IsGroupRefusal, IsEdit, HasCauseOf, HasGroupCause, Call, Opened, Closed, Discarded, Asked, Changed, Skipped, Misread, IsLineError, Step}
+use Rattle.adf_model.specs.Causes.{IsOpenCause, HasOpenCause, OpeningWrites, MovesStanding, RefusalLeaves, GroupLeaves, Anyway}
 use Rattle.adf_model.specs.Runs.{Run}
 use Rattle.adf_model.specs.FaultReplies.{fault_of, fault_in, fault_in_group, fault_reply, fault_replies, total_faults}
 use Rattle.adf_model.proofs.Basics.{not_true, not_there, same_Some}
@@ -88,11 +91,29 @@ module _ (before now : Devices) where
   dropped_counts number (Ok done) h = h.0.counts
   dropped_counts number (Err error) h = h.counts
 
-  read_cause : {A : Type 0} (result : Result A AdfError) → HasReadCause before now result → CausedIn result
-  read_cause (Ok value) h = tt
-  read_cause (Err ReadFault) h = h
-  read_cause (Err WriteFault) h = absurd (not_true h)
-  read_cause (Err error) h = tt
+  read_fault : (linked : Bool) (file : ℕ) (files : Files) → HasReadFault linked file files before now → SomeFault before now
+  read_fault true file files h = (h.0, h.2)
+  read_fault false file files h = (file, h)
+
+  query_cause : {A : Type 0} (files : Files) (query : Query) (result : Result A AdfError) → HasQueryCause files query before now result → CausedIn result
+  query_cause files query (Ok value) h = tt
+  query_cause files query (Err ReadFault) h = read_fault (goes_through_links query) (asked_node query).file files h
+  query_cause files query (Err WriteFault) h = absurd (no_write query h)
+    where
+      no_write : (query : Query) → IsTrue (may_refuse query WriteFault) → ⊥
+      no_write (Query.Name node) h = not_true h
+      no_write (Query.LabelOf node) h = not_true h
+      no_write (Query.ShapeOf node) h = not_true h
+      no_write (Query.ChildrenOf node) h = not_true h
+      no_write (Query.LinkText node) h = not_true h
+      no_write (Query.ReadAll node) h = not_true h
+      no_write (Query.ReadPart node selection) h = not_true h
+      no_write (Query.Find node path) h = not_true h
+      no_write (Query.Next node) h = not_true h
+      no_write (Query.FormatOf node) h = not_true h
+      no_write (Query.Parent node) h = not_true h
+      no_write (Query.Target node) h = not_true h
+  query_cause files query (Err error) h = tt
 
   open_cause : (opening : Opening) (slot : Slot) (number : ℕ) (error : AdfError) → IsOpenRefusal opening slot (device_at before number) (device_at now number) error → Caused error
   open_cause opening slot number ReadFault h = (number, h)
@@ -134,7 +155,7 @@ module _ (before now : Devices) where
   group_counts files after edits at error h = h.devices_stay.counts
 
   group_cause : (files after : Files) (edits : List Edit) (at : ℕ) (error : AdfError) → IsGroupRefusal files before edits at error now after → Caused error
-  group_cause files after edits at ReadFault h = h.cause.fault
+  group_cause files after edits at ReadFault h = (h.cause.fault.0, h.cause.fault.2)
   group_cause files after edits at WriteFault h = (h.stop.number, h.stop.failed.faults)
   group_cause files after edits at error h = tt
 
@@ -173,10 +194,73 @@ module _ (before now : Devices) where
   step_bound files after (Opened number opening limit result) below h = counted_in below (opening_counts files after number opening limit result h.0) result (opening_cause files after number opening limit result h.0)
   step_bound files after (Closed number result) below h = counted_in below h.1.counts result (moved_cause (close_tests files number) (tt, (tt, tt)) files _ number result after h.0)
   step_bound files after (Discarded number result) below h = counted_in below (dropped_counts number result h.1) result (moved_cause (open_tests files number) (tt, (tt, tt)) files Slot.Gone number result after h.0)
-  step_bound files after (Asked query result) below h = counted_in below h.3.counts result (read_cause result h.1)
+  step_bound files after (Asked query result) below h = counted_in below h.3.counts result (query_cause files query result h.1)
   step_bound files after (Changed edits result) below h = edit_bound files after edits result below h.0
   step_bound files after Skipped below h = stayed (same_counts h.0)
   step_bound files after (Misread error) below h = counted below (same_counts h.1) error (line_cause error h.0)
+
+-- ---- one call, whether devices tell or not
+
+module _ (before now : Devices) (files after : Files) where
+  any_open_cause : (opening : Opening) (number : ℕ) (error : AdfError) → IsOpenCause opening (device_at before number) (device_at now number) error → Caused before now error
+  any_open_cause opening number ReadFault h = (number, h)
+  any_open_cause (Fresh wide) number WriteFault h = (number, h.faults)
+  any_open_cause (Stored writable) number WriteFault h = absurd h
+  any_open_cause opening number error h = tt
+
+  any_opened : (opening : Opening) (number : ℕ) (result : Result Unit AdfError) → HasOpenCause files number opening before now result → CausedIn before now result
+  any_opened opening number (Ok done) h = tt
+  any_opened opening number (Err Memory) h = tt
+  any_opened opening number (Err error) h = by_first (first_refusal (open_tests files number)) refl h
+    where
+      by_first : (o : Option AdfError) → first_refusal (open_tests files number) ≡ o → IsFirstOr o error (IsOpenCause opening (device_at before number) (device_at now number) error) → Caused before now error
+      by_first None e h = any_open_cause opening number error h
+      by_first (Some first) e h = subst (Caused before now) (sym h) (refused_by before now (open_tests files number) (tt, (tt, tt)) first e)
+
+  any_open_counts : (opening : Opening) (number : ℕ) (result : Result Unit AdfError) → OpeningWrites result opening number before now → NoCountFell before now
+  any_open_counts opening number (Ok done) h = h.0.counts
+  any_open_counts opening number (Err error) h = refusal_counts before now error opening number h
+
+  any_moved : (tests : List Test) → NoFaults before now tests → (standing : Standing) (number : ℕ) (result : Result Unit AdfError) → MovesStanding tests standing number result files after → CausedIn before now result
+  any_moved tests none standing number (Ok done) h = tt
+  any_moved tests none standing number (Err error) h = refused_by before now tests none error h.0
+
+  any_refusal_counts : (error : AdfError) (edits : List Edit) → RefusalLeaves error files before edits now after → NoCountFell before now
+  any_refusal_counts WriteFault edits h = h.others.counts
+  any_refusal_counts error edits h = h.1.counts
+
+  any_group_counts : (edits : List Edit) (result : Result (List NodeId) EditError) → GroupLeaves result files before edits now after → NoCountFell before now
+  any_group_counts edits (Ok created) h = h.others.counts
+  any_group_counts edits (Err refusal) h = any_refusal_counts refusal.error edits h
+
+  any_group_cause : (edits : List Edit) (error : AdfError) → RefusalLeaves error files before edits now after → HasCauseOf files before now error → Caused before now error
+  any_group_cause edits ReadFault left h = (h.0, h.2)
+  any_group_cause edits WriteFault left h = (left.number, left.failed.faults)
+  any_group_cause edits error left h = tt
+
+  -- no call lets a count fall
+  pub any_counts : (call : Call) → Anyway files before call now after → NoCountFell before now
+  any_counts (Opened number opening limit result) h = any_open_counts opening number result h.writes
+  any_counts (Closed number result) h = h.devices.counts
+  any_counts (Discarded number result) h = dropped_counts before now number result h.devices
+  any_counts (Asked query result) h = h.leaves.devices_stay.counts
+  any_counts (Changed edits result) h = any_group_counts edits result h.leaves
+  any_counts Skipped h = same_counts before now h.0
+  any_counts (Misread error) h = same_counts before now h.1
+
+  any_group_bound : (edits : List Edit) (result : Result (List NodeId) EditError) → Below now → GroupLeaves result files before edits now after → HasGroupCause files before now result → total_faults before + fault_in_group result ≤ total_faults now
+  any_group_bound edits (Ok created) below left h = stayed before now (any_group_counts edits (Ok created) left)
+  any_group_bound edits (Err refusal) below left h = counted before now below (any_group_counts edits (Err refusal) left) refusal.error (any_group_cause edits refusal.error left h)
+
+  -- and one that answers a fault had one
+  pub any_bound : (call : Call) → Below now → Anyway files before call now after → total_faults before + fault_reply call ≤ total_faults now
+  any_bound (Opened number opening limit result) below h = counted_in before now below (any_open_counts opening number result h.writes) result (any_opened opening number result h.cause)
+  any_bound (Closed number result) below h = counted_in before now below h.devices.counts result (any_moved (close_tests files number) (tt, (tt, tt)) Standing.Closed number result h.standing)
+  any_bound (Discarded number result) below h = counted_in before now below (dropped_counts before now number result h.devices) result (any_moved (open_tests files number) (tt, (tt, tt)) Standing.Absent number result h.standing)
+  any_bound (Asked query result) below h = counted_in before now below h.leaves.devices_stay.counts result (query_cause before now files query result h.cause)
+  any_bound (Changed edits result) below h = any_group_bound edits result below h.leaves h.cause
+  any_bound Skipped below h = stayed before now (same_counts before now h.0)
+  any_bound (Misread error) below h = counted before now below (same_counts before now h.1) error (line_cause before now error h.0)
 
 -- ---- a run
 
@@ -190,14 +274,14 @@ below_before between now counts below number = under (device_at between number).
 pub run_counts : (files after : Files) (before now : Devices) (calls : List Call) → Run files before calls now after → NoCountFell before now
 run_counts files after before now [] h = same_counts before now h.0
 run_counts files after before now (call ∷ calls) h = λ number.
-    let first = step_counts before h.1 files h.0 call h.2 number in
-    let rest = run_counts h.0 after h.1 now calls h.4 number in
+    let first = any_counts before h.1 files h.0 call h.2.anyway number in
+    let rest = run_counts h.0 after h.1 now calls h.3 number in
     record { faults = le_trans first.faults rest.faults; lost = le_trans first.lost rest.lost; writes = le_trans first.writes rest.writes }
 
 pub run_bound : (files after : Files) (before now : Devices) (calls : List Call) → Below now → Run files before calls now after → total_faults before + fault_replies calls ≤ total_faults now
 run_bound files after before now [] below h = stayed before now (same_counts before now h.0)
 run_bound files after before now (call ∷ calls) below h =
-    let rest = run_counts h.0 after h.1 now calls h.4 in
-    let first = step_bound before h.1 files h.0 call (below_before h.1 now rest below) h.2 in
-    let more = run_bound h.0 after h.1 now calls below h.4 in
+    let rest = run_counts h.0 after h.1 now calls h.3 in
+    let first = any_bound before h.1 files h.0 call (below_before h.1 now rest below) h.2.anyway in
+    let more = run_bound h.0 after h.1 now calls below h.3 in
     omega (arith, first, more)

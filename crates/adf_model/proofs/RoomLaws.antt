@@ -185,7 +185,7 @@ full_is_exact files after before now edits at asked end h placed =
 refusal_completes : (files after : Files) (before now : Devices) (edits : List Edit) (at : ℕ) (error : AdfError) → NoFault before now → IsWithinLimit files before edits
     → IsGroupRefusal files before edits at error now after → (error ≡ Memory) ⊎ (edit_group files edits ≡ Err (record { at = at; error = error }))
 refusal_completes files after before now edits at Memory quiet room h = inl refl
-refusal_completes files after before now edits at ReadFault quiet room h = absurd (quiet h.cause.fault.0 h.cause.fault.1)
+refusal_completes files after before now edits at ReadFault quiet room h = absurd (quiet h.cause.fault.0 h.cause.fault.2)
 refusal_completes files after before now edits at WriteFault quiet room h = absurd (quiet h.stop.number h.stop.failed.faults)
 refusal_completes files after before now edits at (Full asked end) quiet room h = absurd (not_over (room (at + 1) h.cause.number h.cause.group h.cause.opened h.cause.through h.cause.file h.cause.live) h.cause.over)
   where

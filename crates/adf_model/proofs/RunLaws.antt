@@ -10,29 +10,40 @@ use Rattle.adf_model.specs.declared.tree.Edit.{Edit}
 use Rattle.adf_model.specs.Tests.{first_refusal}
 use Rattle.adf_model.specs.Slots.{Open, Slot, Files, Device, Devices, slot_at, device_at, open_of, open_at, with_slot, is_gone, is_open, recorded_end, IsToldAt, IsTold}
 use Rattle.adf_model.specs.Slots.Slot.{Gone, Raw, Saved, Live}
-use Rattle.adf_model.specs.Steps.{AllLaidOut, IsLaidOut, IsLaidOutAt, OthersOnlyRead, Fresh, Opens, IsFirstOr, IsOpenRefusal, IsOpening, IsClose, closed, close_tests, open_tests, WriteStops, Call, Opened, Closed, Changed, Step}
-use Rattle.adf_model.specs.Runs.{KeepsLayouts, Run}
+use Rattle.adf_model.specs.Steps.{AllLaidOut, IsLaidOut, IsLaidOutAt, OthersOnlyRead, Fresh, Opens, IsFirstOr, IsOpenRefusal, IsOpening, IsClose, closed, close_tests, open_tests, WriteStops, Call, Opened, Closed, Discarded, Asked, Changed, Skipped, Misread, Step}
+use Rattle.adf_model.specs.Runs.{IsToldFor, Run}
+use Rattle.adf_model.proofs.StandingLaws.{not_gone}
 use Rattle.adf_model.proofs.Basics.{not_true, not_there, same_Some}
 use Rattle.adf_model.proofs.LayoutLemmas.{live_slot, end_of_open}
 use Rattle.adf_model.proofs.TornTail.{nat_cases, sides}
 
 -- ---- all states
 
+-- where all devices tell, those that a call touches do
+pub told_for : (files : Files) (devices : Devices) (call : Call) → IsTold files devices → IsToldFor files devices call
+told_for files devices (Opened number opening limit result) told = told number
+told_for files devices (Closed number result) told = told number
+told_for files devices (Discarded number result) told = told number
+told_for files devices (Asked query result) told = inl told
+told_for files devices (Changed edits result) told = inl told
+told_for files devices Skipped told = tt
+told_for files devices (Misread error) told = tt
+
 pub run_told : (files after : Files) (before now : Devices) (calls : List Call) → Run files before calls now after → (number : ℕ) → IsToldAt (slot_at files number) (device_at before number) → IsToldAt (slot_at after number) (device_at now number)
 run_told files after before now [] h number told =
     subst (λ (f : Files). IsToldAt (slot_at f number) (device_at now number)) (sym h.1) (subst (λ (d : Devices). IsToldAt (slot_at files number) (device_at d number)) (sym h.0) told)
-run_told files after before now (call ∷ calls) h number told = run_told h.0 after h.1 now calls h.4 number (h.3.told number told)
+run_told files after before now (call ∷ calls) h number told = run_told h.0 after h.1 now calls h.3 number (h.2.layouts.told number told)
 
 pub run_laid_out : (files after : Files) (before now : Devices) (calls : List Call) → Run files before calls now after → AllLaidOut files before → AllLaidOut after now
 run_laid_out files after before now [] h laid = subst (λ (f : Files). AllLaidOut f now) (sym h.1) (subst (λ (d : Devices). AllLaidOut files d) (sym h.0) laid)
-run_laid_out files after before now (call ∷ calls) h laid = run_laid_out h.0 after h.1 now calls h.4 (λ number. h.3.laid_out number (laid number))
+run_laid_out files after before now (call ∷ calls) h laid = run_laid_out h.0 after h.1 now calls h.3 (λ number. h.2.layouts.laid_out number (laid number))
 
 -- a run of calls and then of more
 pub run_parts : (files after : Files) (before now : Devices) (calls more : List Call) → Run files before (calls ++ more) now after → (middle : Files) × (between : Devices) × Run files before calls between middle × Run middle between more now after
 run_parts files after before now [] more h = (files, before, (refl, refl), h)
 run_parts files after before now (call ∷ calls) more h =
-    let rest = run_parts h.0 after h.1 now calls more h.4 in
-    (rest.0, rest.1, (h.0, h.1, h.2, h.3, rest.2), rest.3)
+    let rest = run_parts h.0 after h.1 now calls more h.3 in
+    (rest.0, rest.1, (h.0, h.1, h.2, rest.2), rest.3)
 
 end_at : (files : Files) (devices : Devices) (number : ℕ) (opened : Open) → AllLaidOut files devices → open_at files number ≡ Some opened → IsSome (device_at devices number).held
     → recorded_end (device_at devices number) ≡ (device_at devices number).placement.heap.end
@@ -68,31 +79,27 @@ set_there [] number slot there = absurd (not_true (sym there))
 set_there (file ∷ files) zero slot there = refl
 set_there (file ∷ files) (suc number) slot there = set_there files number slot there
 
-not_gone : (slot : Slot) → first_refusal ((is_gone slot, AdfError.NoSuchFile) ∷ (is_open slot, AdfError.AlreadyOpen) ∷ []) ≡ None → is_gone slot ≡ false
-not_gone Gone e = absurd (not_there _ (sym e))
-not_gone Raw e = refl
-not_gone (Saved tree) e = refl
-not_gone (Live opened) e = refl
-not_gone Slot.Broken e = refl
-
 pub fresh_ends : (files after : Files) (before now : Devices) (number limit : ℕ) (wide : Bool) (calls : List Call) → Run files before (Opened number (Fresh wide) limit (Ok tt) ∷ calls) now after → AllLaidOut files before → IsSome (device_at before number).held
     → (middle : Files) × (between : Devices) × (recorded_end (device_at between number) ≡ fresh_end wide) × Run middle between calls now after
-fresh_ends files after before now number limit wide calls h laid told = (h.0, h.1, ends ∙ ap (λ p. p.heap.end) (fresh_placed files h.0 before h.1 number limit wide h.2), h.4)
+fresh_ends files after before now number limit wide calls h laid told = (h.0, h.1, ends ∙ ap (λ p. p.heap.end) (fresh_placed files h.0 before h.1 number limit wide step), h.3)
   where
+    step : Step files before (Opened number (Fresh wide) limit (Ok tt)) h.1 h.0
+    step = h.2.step (λ there. told)
+
     opened : Open
-    opened = h.2.0.0
+    opened = step.0.0
 
     there : is_gone (slot_at files number) ≡ false
-    there = not_gone (slot_at files number) h.2.0.1
+    there = not_gone (slot_at files number) step.0.1
 
     here : open_at h.0 number ≡ Some opened
-    here = ap (λ (f : Files). open_at f number) h.2.0.4 ∙ ap open_of (set_there files number (Live opened) there)
+    here = ap (λ (f : Files). open_at f number) step.0.4 ∙ ap open_of (set_there files number (Live opened) there)
 
     some : IsSome (device_at h.1 number).held
-    some = ap is_some (fresh_held files h.0 before h.1 number limit wide h.2 told)
+    some = ap is_some (fresh_held files h.0 before h.1 number limit wide step told)
 
     ends : recorded_end (device_at h.1 number) ≡ (device_at h.1 number).placement.heap.end
-    ends = end_at h.0 h.1 number opened (λ k. h.3.laid_out k (laid k)) here some
+    ends = end_at h.0 h.1 number opened (λ k. h.2.layouts.laid_out k (laid k)) here some
 
 -- ---- no fresh file over bytes
 
@@ -145,21 +152,28 @@ held_there slot device told there = by_held device.held (told there)
     by_held None some = absurd (not_true some)
     by_held (Some bytes) some = (bytes, refl)
 
-pub not_fresh_again : (files after : Files) (before now : Devices) (number limit more at : ℕ) (wide other : Bool) (edits : List Edit) (result : Result Unit AdfError) → IsSome (device_at before number).held
+pub not_fresh_again : (files after : Files) (before now : Devices) (number limit more at : ℕ) (wide other : Bool) (edits : List Edit) (result : Result Unit AdfError) → IsTold files before
     → Run files before (Opened number (Fresh wide) limit (Ok tt) ∷ Changed edits (Err (record { at = at; error = WriteFault })) ∷ Closed number (Ok tt) ∷ Opened number (Fresh other) more result ∷ []) now after
     → (result ≡ Err Memory) ⊎ ((result ≡ Err ReadFault) ⊎ (result ≡ Err NotEmpty))
 not_fresh_again files after before now number limit more at wide other edits result told opens =
-    let fails = opens.4 in
-    let closes = fails.4 in
-    let again = closes.4 in
-    let fresh = fresh_held files opens.0 before opens.1 number limit wide opens.2 told in
-    let was = shut (slot_at fails.0 number) closes.2.0.0 in
-    let torn = held_there (slot_at fails.0 number) (device_at fails.1 number) (fails.3.told number (λ there. ap is_some fresh)) was.0 in
-    let some = failed_holds opens.0 fails.0 opens.1 fails.1 edits at number (fresh_block wide) torn.0 fails.2.0 fresh torn.1 (let e = block_length wide in omega (arith, e)) in
-    let left = ap (λ (f : Files). slot_at f number) closes.2.0.1 ∙ set_there fails.0 number (closed (slot_at fails.0 number)) was.0 in
+    let fails = opens.3 in
+    let closes = fails.3 in
+    let again = closes.3 in
+    let told_then : IsTold opens.0 opens.1 = λ k. opens.2.layouts.told k (told k) in
+    let told_now : IsTold fails.0 fails.1 = λ k. fails.2.layouts.told k (told_then k) in
+    let told_last : IsTold closes.0 closes.1 = λ k. closes.2.layouts.told k (told_now k) in
+    let opened : Step files before (Opened number (Fresh wide) limit (Ok tt)) opens.1 opens.0 = opens.2.step (told number) in
+    let failed : Step opens.0 opens.1 (Changed edits (Err (record { at = at; error = WriteFault }))) fails.1 fails.0 = fails.2.step (inl told_then) in
+    let shuts : Step fails.0 fails.1 (Closed number (Ok tt)) closes.1 closes.0 = closes.2.step (told_now number) in
+    let last : Step closes.0 closes.1 (Opened number (Fresh other) more result) again.1 again.0 = again.2.step (told_last number) in
+    let fresh = fresh_held files opens.0 before opens.1 number limit wide opened (told number (not_gone (slot_at files number) opened.0.1)) in
+    let was = shut (slot_at fails.0 number) shuts.0.0 in
+    let torn = held_there (slot_at fails.0 number) (device_at fails.1 number) (told_now number) was.0 in
+    let some = failed_holds opens.0 fails.0 opens.1 fails.1 edits at number (fresh_block wide) torn.0 failed.0 fresh torn.1 (let e = block_length wide in omega (arith, e)) in
+    let left = ap (λ (f : Files). slot_at f number) shuts.0.1 ∙ set_there fails.0 number (closed (slot_at fails.0 number)) was.0 in
     let free = ap (λ (s : Slot). first_refusal ((is_gone s, AdfError.NoSuchFile) ∷ (is_open s, AdfError.AlreadyOpen) ∷ [])) left ∙ was.1 in
-    let held = (closes.2.1.others number (λ e. some_none number e)).held ∙ torn.1 in
-    refused_over closes.0 again.0 closes.1 again.1 number more other result torn.0 free held some again.2.0
+    let held = (shuts.1.others number (λ e. some_none number e)).held ∙ torn.1 in
+    refused_over closes.0 again.0 closes.1 again.1 number more other result torn.0 free held some last.0
   where
     some_none : (n : ℕ) → ◌≡◌ {A = Option ℕ} (Some n) None → ⊥
     some_none n e = cc

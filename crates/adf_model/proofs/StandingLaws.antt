@@ -8,16 +8,17 @@ use Rattle.adf_format.specs.Tree.{Tree, is_live}
 use Rattle.adf_format.specs.Placement.{Placement}
 use Rattle.adf_format.specs.HeapRule.{LimitReached, place_edit}
 use Rattle.adf_model.specs.declared.error.AdfError.{AdfError}
-use Rattle.adf_model.specs.declared.error.AdfError.TheVariants.{Memory, ReadFault, WriteFault, NoSuchNode, Full, Syntax, LineTooLong}
+use Rattle.adf_model.specs.declared.error.AdfError.TheVariants.{Memory, ReadFault, WriteFault, NotEmpty, NoSuchNode, Layout, Full, Syntax, LineTooLong}
 use Rattle.adf_model.specs.declared.error.EditError.{EditError}
 use Rattle.adf_model.specs.declared.tree.Edit.{Edit}
 use Rattle.adf_model.specs.declared.tree.NodeId.{NodeId}
 use Rattle.adf_model.specs.Tests.{Test, first_refusal, checked}
 use Rattle.adf_model.specs.Edits.{file_tests_at_entry, file_step, named_nodes, names_link, followed, apply}
 use Rattle.adf_model.specs.Placing.{placed_as}
-use Rattle.adf_model.specs.Slots.{Open, Slot, Standing, Files, Device, Devices, device_at, standings, standing_of, slot_at, is_gone, is_open, with_slot, number_from, entry_file, entry_files}
+use Rattle.adf_model.specs.Slots.{Open, Slot, Standing, Files, Device, Devices, device_at, standings, standing_of, slot_at, is_gone, is_open, with_slot, name_there, names_there, number_from, entry_file, entry_files}
 use Rattle.adf_model.specs.Slots.Slot.{Gone, Raw, Saved, Live}
-use Rattle.adf_model.specs.Steps.{Rose, WriteFailed, Opening, Fresh, Stored, IsFirstOr, IsOpenRefusal, Opens, IsOpening, OpensStanding, HasOpenCause, standing_by, LeavesStandings, LeavesStandingsBy, IsFileRefusal, IsLineError}
+use Rattle.adf_model.specs.Steps.{Rose, WriteFailed, OthersOnlyRead, OthersStayPlaced, Opening, Fresh, Stored, IsFirstOr, IsOpenRefusal, Opens, IsOpening, IsClose, IsDiscard, DropsOne, closed, open_tests, placed_anew, IsFileRefusal, IsLineError}
+use Rattle.adf_model.specs.Causes.{OpensStanding, standing_by, IsOpenCause, HasOpenCause, OpeningWrites, OpenedAnyway, MovesStanding, ClosedAnyway, DiscardedAnyway, RefusalLeaves, GroupLeaves}
 use Rattle.adf_model.proofs.Basics.{not_true, not_there, same_Some, same_Ok, not_Err}
 use Rattle.adf_model.proofs.DifferLemmas.{bytes_eq_same}
 
@@ -35,12 +36,25 @@ set_here [] number x there = absurd (not_true (sym there))
 set_here (file ∷ files) zero x there = refl
 set_here (file ∷ files) (suc number) x there = set_here files number x there
 
-open_not_gone : (slot : Slot) → is_open slot ≡ true → is_gone slot ≡ false
-open_not_gone Gone e = absurd (not_true e)
-open_not_gone Raw e = refl
-open_not_gone (Saved tree) e = refl
-open_not_gone (Live opened) e = refl
-open_not_gone Slot.Broken e = refl
+absent_edits : Standing.Absent ≡ Standing.Editing → ⊥
+absent_edits e = cc
+
+edited_there : (slot : Slot) → standing_of slot ≡ Standing.Editing → is_gone slot ≡ false
+edited_there Gone e = absurd (absent_edits e)
+edited_there Raw e = refl
+edited_there (Saved tree) e = refl
+edited_there (Live opened) e = refl
+edited_there Slot.Broken e = refl
+
+absent_closed : Standing.Absent ≡ Standing.Closed → ⊥
+absent_closed e = cc
+
+closed_slot : (slot : Slot) → standing_of slot ≡ Standing.Closed → is_gone slot ≡ false
+closed_slot Gone e = absurd (absent_closed e)
+closed_slot Raw e = refl
+closed_slot (Saved tree) e = refl
+closed_slot (Live opened) e = refl
+closed_slot Slot.Broken e = refl
 
 -- ---- openings
 
@@ -97,44 +111,171 @@ told_stand files after before now number limit opening (Err WriteFault) h =
     ap standings h.1 ∙ same_standings files number Raw (closed_there (slot_at files number) (IsOpenRefusal opening (slot_at files number) (device_at before number) (device_at now number) WriteFault) WriteFault write_no_file write_no_open h.0).0
 told_stand files after before now number limit opening (Err error) h = ap standings h.1
 
-write_cause : (opening : Opening) (slot : Slot) (before now : Device) → IsOpenRefusal opening slot before now WriteFault → WriteFailed before now
-write_cause (Fresh wide) slot before now h = h.0
-write_cause (Stored writable) Gone before now h = absurd h
-write_cause (Stored writable) Raw before now h = absurd h
-write_cause (Stored writable) (Saved tree) before now h = absurd h
-write_cause (Stored writable) (Live opened) before now h = absurd h
-write_cause (Stored writable) Slot.Broken before now h = absurd h
+-- why an opening fails over devices that tell is why it may fail at all
+open_cause : (opening : Opening) (slot : Slot) (before now : Device) (error : AdfError) → IsOpenRefusal opening slot before now error → IsOpenCause opening before now error
+open_cause opening slot before now Memory h = tt
+open_cause opening slot before now ReadFault h = h
+open_cause (Fresh wide) slot before now NotEmpty h = tt
+open_cause (Fresh wide) slot before now WriteFault h = h.0
+open_cause (Fresh wide) slot before now error h = absurd h
+open_cause (Stored writable) Raw before now (Layout rule place) h = tt
+open_cause (Stored writable) Raw before now error h = absurd h
+open_cause (Stored writable) Gone before now error h = absurd h
+open_cause (Stored writable) (Saved tree) before now error h = absurd h
+open_cause (Stored writable) (Live opened) before now error h = absurd h
+open_cause (Stored writable) Slot.Broken before now error h = absurd h
 
-pub told_causes : (files after : Files) (before now : Devices) (number limit : ℕ) (opening : Opening) (result : Result Unit AdfError) → IsOpening files before number opening limit result now after → HasOpenCause (device_at before number) (device_at now number) result
-told_causes files after before now number limit opening (Err ReadFault) h =
-    (closed_there (slot_at files number) (Rose (device_at before number).faults (device_at now number).faults) ReadFault read_no_file read_no_open h.0).1
-told_causes files after before now number limit opening (Err WriteFault) h =
-    write_cause opening (slot_at files number) (device_at before number) (device_at now number)
-    (closed_there (slot_at files number) (IsOpenRefusal opening (slot_at files number) (device_at before number) (device_at now number) WriteFault) WriteFault write_no_file write_no_open h.0).1
-told_causes files after before now number limit opening result h = tt
+by_first : (first : Option AdfError) (error : AdfError) (One Other : Type 0) → (One → Other) → IsFirstOr first error One → IsFirstOr first error Other
+by_first (Some first) error One Other so h = h
+by_first None error One Other so h = so h
 
-pub silent_opening : (before now : Device) (result : Result Unit AdfError) → (Rose before.faults now.faults → ⊥) → HasOpenCause before now result → (result ≢ Err ReadFault) × (result ≢ Err WriteFault)
-silent_opening before now result silent h = (λ e. silent (subst (HasOpenCause before now) e h), λ e. silent (subst (HasOpenCause before now) e h).faults)
+pub told_causes : (files after : Files) (before now : Devices) (number limit : ℕ) (opening : Opening) (result : Result Unit AdfError) → IsOpening files before number opening limit result now after → HasOpenCause files number opening before now result
+told_causes files after before now number limit opening (Ok done) h = h.1
+told_causes files after before now number limit opening (Err Memory) h = tt
+told_causes files after before now number limit opening (Err error) h =
+    by_first (first_refusal (open_tests files number)) error _ _ (open_cause opening (slot_at files number) (device_at before number) (device_at now number) error) h.0
+
+told_writes : (files after : Files) (before now : Devices) (number limit : ℕ) (opening : Opening) (result : Result Unit AdfError) → IsOpening files before number opening limit result now after → OpeningWrites result opening number before now
+told_writes files after before now number limit opening (Ok done) h = h.5
+told_writes files after before now number limit opening (Err Memory) h = h.1
+told_writes files after before now number limit opening (Err error) h = h.2
+
+-- a file that stays there or stays gone keeps its name
+pub names_with : (files : Files) (number : ℕ) (slot : Slot) → is_gone slot ≡ is_gone (slot_at files number) → names_there (with_slot files number slot) ≡ names_there files
+names_with [] number slot e = refl
+names_with (file ∷ files) zero slot e = ap (λ gone. (if gone then None else Some file.name) ∷ names_there files) e
+names_with (file ∷ files) (suc number) slot e = ap (λ (names : List (Option (List ℕ))). name_there file ∷ names) (names_with files number slot e)
+
+pub not_gone : (slot : Slot) → first_refusal ((is_gone slot, AdfError.NoSuchFile) ∷ (is_open slot, AdfError.AlreadyOpen) ∷ []) ≡ None → is_gone slot ≡ false
+not_gone Gone e = absurd (not_there _ (sym e))
+not_gone Raw e = refl
+not_gone (Saved tree) e = refl
+not_gone (Live opened) e = refl
+not_gone Slot.Broken e = refl
+
+told_names : (files after : Files) (before now : Devices) (number limit : ℕ) (opening : Opening) (result : Result Unit AdfError) → IsOpening files before number opening limit result now after → names_there after ≡ names_there files
+told_names files after before now number limit opening (Ok done) h = ap names_there h.4 ∙ names_with files number (Live h.0) (sym (not_gone (slot_at files number) h.1))
+told_names files after before now number limit opening (Err Memory) h = ap names_there h.0
+told_names files after before now number limit opening (Err WriteFault) h =
+    ap names_there h.1
+    ∙ names_with files number Raw (sym (closed_slot (slot_at files number) (closed_there (slot_at files number) (IsOpenRefusal opening (slot_at files number) (device_at before number) (device_at now number) WriteFault) WriteFault write_no_file write_no_open h.0).0))
+told_names files after before now number limit opening (Err error) h = ap names_there h.1
+
+-- what an opening over devices that tell may answer and leave, it may in any case
+pub opening_anyway : (files after : Files) (before now : Devices) (number limit : ℕ) (opening : Opening) (result : Result Unit AdfError) → IsOpening files before number opening limit result now after → OthersStayPlaced (placed_anew result number) before now
+    → OpenedAnyway files before number opening result now after
+opening_anyway files after before now number limit opening result h placed = record {
+  standing = told_stand files after before now number limit opening result h;
+  names = told_names files after before now number limit opening result h;
+  cause = told_causes files after before now number limit opening result h;
+  writes = told_writes files after before now number limit opening result h;
+  placed = placed;
+}
+
+-- a failed read or write of an opening has its count on the file's own device
+pub silent_opening : (files : Files) (number : ℕ) (opening : Opening) (before now : Devices) (result : Result Unit AdfError) → (Rose (device_at before number).faults (device_at now number).faults → ⊥) → HasOpenCause files number opening before now result
+    → (result ≢ Err ReadFault) × (result ≢ Err WriteFault)
+silent_opening files number opening before now result silent h =
+    (λ e. silent (read (subst (HasOpenCause files number opening before now) e h)), λ e. silent (written opening (subst (HasOpenCause files number opening before now) e h)))
+  where
+    read : HasOpenCause files number opening before now (Err ReadFault) → Rose (device_at before number).faults (device_at now number).faults
+    read h = (closed_there (slot_at files number) (Rose (device_at before number).faults (device_at now number).faults) ReadFault read_no_file read_no_open h).1
+
+    written : (opening : Opening) → HasOpenCause files number opening before now (Err WriteFault) → Rose (device_at before number).faults (device_at now number).faults
+    written (Fresh wide) h = (closed_there (slot_at files number) (WriteFailed (device_at before number) (device_at now number)) WriteFault write_no_file write_no_open h).1.faults
+    written (Stored writable) h = absurd (closed_there (slot_at files number) ⊥ WriteFault write_no_file write_no_open h).1
+
+-- an error that no opening has
+abbrev pub is_of_opening : AdfError → Bool
+is_of_opening Memory = true
+is_of_opening ReadFault = true
+is_of_opening WriteFault = true
+is_of_opening NotEmpty = true
+is_of_opening (Layout rule place) = true
+is_of_opening AdfError.NoSuchFile = true
+is_of_opening AdfError.AlreadyOpen = true
+is_of_opening error = false
+
+no_cause : (opening : Opening) (before now : Device) (error : AdfError) → is_of_opening error ≡ false → IsOpenCause opening before now error → ⊥
+no_cause opening before now Memory foreign h = not_true (sym foreign)
+no_cause opening before now ReadFault foreign h = not_true (sym foreign)
+no_cause (Fresh wide) before now WriteFault foreign h = not_true (sym foreign)
+no_cause (Fresh wide) before now NotEmpty foreign h = not_true (sym foreign)
+no_cause (Fresh wide) before now error foreign h = h
+no_cause (Stored writable) before now (Layout rule place) foreign h = not_true (sym foreign)
+no_cause (Stored writable) before now error foreign h = h
+
+no_first : (gone in_use : Bool) (error : AdfError) (Otherwise : Type 0) → is_of_opening error ≡ false → (Otherwise → ⊥) → IsFirstOr (first_refusal ((gone, AdfError.NoSuchFile) ∷ (in_use, AdfError.AlreadyOpen) ∷ [])) error Otherwise → ⊥
+no_first true in_use error Otherwise foreign none h = not_true (sym foreign ∙ ap is_of_opening h)
+no_first false true error Otherwise foreign none h = not_true (sym foreign ∙ ap is_of_opening h)
+no_first false false error Otherwise foreign none h = none h
+
+pub never_opened : (files : Files) (number : ℕ) (opening : Opening) (before now : Devices) (error : AdfError) → is_of_opening error ≡ false → HasOpenCause files number opening before now (Err error) → ⊥
+never_opened files number opening before now Memory foreign h = not_true (sym foreign)
+never_opened files number opening before now error foreign h =
+    no_first (is_gone (slot_at files number)) (is_open (slot_at files number)) error _ foreign (no_cause opening (device_at before number) (device_at now number) error foreign) h
+
+-- ---- closings and discardings
+
+closed_slot_stands : (slot : Slot) → first_refusal ((is_gone slot, AdfError.NoSuchFile) ∷ (not (is_open slot), AdfError.NotOpen) ∷ []) ≡ None → (standing_of (closed slot) ≡ Standing.Closed) × (is_gone (closed slot) ≡ is_gone slot)
+closed_slot_stands Gone e = absurd (not_there _ (sym e))
+closed_slot_stands Raw e = absurd (not_there _ (sym e))
+closed_slot_stands (Saved tree) e = absurd (not_there _ (sym e))
+closed_slot_stands (Live opened) e = (refl, refl)
+closed_slot_stands Slot.Broken e = (refl, refl)
+
+pub closing_anyway : (files after : Files) (before now : Devices) (number : ℕ) (result : Result Unit AdfError) → IsClose files number result after → OthersOnlyRead None before now → OthersStayPlaced (placed_anew result number) before now
+    → ClosedAnyway files before number result now after
+closing_anyway files after before now number (Ok done) h devices placed = record {
+  standing = (h.0, ap standings h.1 ∙ standings_with files number (closed (slot_at files number)) ∙ ap (slice_set (standings files) number) (closed_slot_stands (slot_at files number) h.0).0);
+  names = ap names_there h.1 ∙ names_with files number (closed (slot_at files number)) (closed_slot_stands (slot_at files number) h.0).1;
+  devices = devices;
+  placed = placed;
+}
+closing_anyway files after before now number (Err error) h devices placed = record { standing = (h.0, ap standings h.1); names = ap names_there h.1; devices = devices; placed = placed }
+
+names_without : (files : Files) (number : ℕ) → names_there (with_slot files number Gone) ≡ slice_set (names_there files) number None
+names_without [] number = refl
+names_without (file ∷ files) zero = refl
+names_without (file ∷ files) (suc number) = ap (λ (names : List (Option (List ℕ))). name_there file ∷ names) (names_without files number)
+
+pub discarding_anyway : (files after : Files) (before now : Devices) (number : ℕ) (result : Result Unit AdfError) → IsDiscard files number result after → DropsOne number result before now → OthersStayPlaced (placed_anew result number) before now
+    → DiscardedAnyway files before number result now after
+discarding_anyway files after before now number (Ok done) h devices placed = record {
+  standing = (h.0, ap standings h.1 ∙ standings_with files number Gone);
+  names = ap names_there h.1 ∙ names_without files number;
+  devices = devices;
+  placed = placed;
+}
+discarding_anyway files after before now number (Err error) h devices placed = record { standing = (h.0, ap standings h.1); names = ap names_there h.1; devices = devices; placed = placed }
+
+-- no closing and no discarding lacks memory
+pub never_lacks : (first other : Bool) (one two : AdfError) (standing : Standing) (number : ℕ) (before after : Files) → (one ≡ Memory → ⊥) → (two ≡ Memory → ⊥)
+    → MovesStanding ((first, one) ∷ (other, two) ∷ []) standing number (Err Memory) before after → ⊥
+never_lacks true other one two standing number before after no_one no_two h = no_one (same_Some one Memory h.0)
+never_lacks false true one two standing number before after no_one no_two h = no_two (same_Some two Memory h.0)
+never_lacks false false one two standing number before after no_one no_two h = not_there Memory h.0
 
 -- ---- groups
 
-pub failed_stands : (at : ℕ) (files after : Files) (before now : Devices) → LeavesStandings {A = List NodeId} (Err (record { at = at; error = WriteFault })) files before now after
+pub failed_stands : (at : ℕ) (files after : Files) (before now : Devices) (edits : List Edit) → GroupLeaves {A = List NodeId} (Err (record { at = at; error = WriteFault })) files before edits now after
     → (number : ℕ) × Rose (device_at before number).writes (device_at now number).writes × (slice_get (standings after) number ≡ Some Standing.Failed)
     × ((one : ℕ) → one ≢ number → slice_get (standings after) one ≡ slice_get (standings files) one)
-failed_stands at files after before now h = (
-  h.0,
-  h.2.writes,
-  ap (λ (s : List Standing). slice_get s h.0) h.3 ∙ set_here files h.0 Standing.Failed (open_not_gone (slot_at files h.0) h.1),
-  λ one other. ap (λ (s : List Standing). slice_get s one) h.3 ∙ set_other (standings files) h.0 one Standing.Failed other,
+failed_stands at files after before now edits h = (
+  h.number,
+  h.failed.writes,
+  ap (λ (s : List Standing). slice_get s h.number) h.standing ∙ set_here files h.number Standing.Failed (edited_there (slot_at files h.number) h.own.0),
+  λ one other. ap (λ (s : List Standing). slice_get s one) h.standing ∙ set_other (standings files) h.number one Standing.Failed other,
 )
 
-stand_by_error : (error : AdfError) (files after : Files) (before now : Devices) → ((number : ℕ) → WriteFailed (device_at before number) (device_at now number) → ⊥) → LeavesStandingsBy error files before now after → standings after ≡ standings files
-stand_by_error WriteFault files after before now none h = absurd (none h.0 h.2)
-stand_by_error error files after before now none h = h
+stand_by_error : (error : AdfError) (files after : Files) (before now : Devices) (edits : List Edit) → ((number : ℕ) → WriteFailed (device_at before number) (device_at now number) → ⊥) → RefusalLeaves error files before edits now after → standings after ≡ standings files
+stand_by_error WriteFault files after before now edits none h = absurd (none h.number h.failed)
+stand_by_error error files after before now edits none h = h.0
 
-pub silent_group : (result : Result (List NodeId) EditError) (files after : Files) (before now : Devices) → ((number : ℕ) → WriteFailed (device_at before number) (device_at now number) → ⊥) → LeavesStandings result files before now after → standings after ≡ standings files
-silent_group (Ok created) files after before now none h = h
-silent_group (Err refusal) files after before now none h = stand_by_error refusal.error files after before now none h
+pub silent_group : (result : Result (List NodeId) EditError) (files after : Files) (before now : Devices) (edits : List Edit) → ((number : ℕ) → WriteFailed (device_at before number) (device_at now number) → ⊥) → GroupLeaves result files before edits now after
+    → standings after ≡ standings files
+silent_group (Ok created) files after before now edits none h = h.standing
+silent_group (Err refusal) files after before now edits none h = stand_by_error refusal.error files after before now edits none h
 
 -- ---- one file
 

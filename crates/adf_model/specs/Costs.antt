@@ -8,8 +8,8 @@ use Rattle.adf_model.specs.declared.tree.NodeId.{NodeId}
 use Rattle.adf_model.specs.Placing.{group_cost}
 use Rattle.adf_model.specs.Slots.{Open, Files, Devices, open_at, device_at}
 use Rattle.adf_model.specs.Calls.{Group, edit_group}
-use Rattle.adf_model.specs.Steps.{Opening, Fresh, Stored, Call, Opened, Closed, Discarded, Asked, Changed, Skipped, Misread, Step}
-use Rattle.adf_model.specs.Runs.{KeepsLayouts}
+use Rattle.adf_model.specs.Steps.{Opening, Fresh, Stored, Call, Opened, Closed, Discarded, Asked, Changed, Skipped, Misread}
+use Rattle.adf_model.specs.Runs.{Makes}
 
 abbrev pub is_write_fault : AdfError → Bool
 is_write_fault WriteFault = true
@@ -53,5 +53,4 @@ call_cost one files before (Misread error) = 0
 abbrev pub RunCosts : ℕ → Files → Devices → List Call → Devices → Files → ℕ → Type 0
 RunCosts one files before [] now after cost = (now ≡ before) × (after ≡ files) × (cost ≡ 0)
 RunCosts one files before (call ∷ calls) now after cost =
-    (middle : Files) × (between : Devices) × (later : ℕ) × Step files before call between middle × KeepsLayouts files before between middle
-    × (cost ≡ call_cost one files before call + later) × RunCosts one middle between calls now after later
+    (middle : Files) × (between : Devices) × (later : ℕ) × Makes files before call between middle × (cost ≡ call_cost one files before call + later) × RunCosts one middle between calls now after later

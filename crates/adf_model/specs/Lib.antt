@@ -13,9 +13,9 @@ pub mod Calls
 pub mod Answers
 pub mod Torn
 pub mod Steps
+pub mod Causes
+pub mod OneFile
 pub mod Runs
-pub mod Promises
 pub mod Costs
 pub mod Creation
-pub mod OneFile
 pub mod FaultReplies

@@ -91,6 +91,14 @@ number_of files wanted = number_from 0 files wanted
 abbrev pub standings : Files → List Standing
 standings files = map (λ (file : File). standing_of file.slot) files
 
+-- the name of a file that is there
+abbrev pub name_there : File → Option (List ℕ)
+name_there file = if is_gone file.slot then None else Some file.name
+
+-- the names of the files that are there, by their numbers
+abbrev pub names_there : Files → List (Option (List ℕ))
+names_there files = map name_there files
+
 -- what is open are trees
 abbrev pub AreTrees : Files → Type 0
 AreTrees files = (number : ℕ) (opened : Open) → open_at files number ≡ Some opened → IsTree opened.tree

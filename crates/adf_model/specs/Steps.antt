@@ -1,9 +1,10 @@
 -- What each call may answer, and what it leaves.
-use Rattle.std.specs.Prelude.{◌≡◌, ◌≢◌, ◌⊎◌, ℕ, ◌+◌, ◌-◌, ◌*◌, ◌^◌, ◌<◌, ◌≤◌, min, Bool, true, false, IsTrue, not, if◌then◌else◌, slice_set, List, [], ◌∷◌, length, take, Option, Some, None, IsSome, option_map, Result, Ok, Err, slice_get, IfSome, IfOk}
+use Rattle.std.specs.Prelude.{◌≡◌, ◌≢◌, ◌⊎◌, ℕ, ◌+◌, ◌-◌, ◌*◌, ◌^◌, ◌<◌, ◌≤◌, min, Bool, true, false, IsTrue, not, List, [], ◌∷◌, length, take, Option, Some, None, IsSome, option_map, Result, Ok, Err, slice_get, IfSome, IfOk}
 use Rattle.adf_model.specs.declared.error.AdfError.{AdfError}
 use Rattle.adf_model.specs.declared.error.AdfError.TheVariants.{Memory, ReadFault, WriteFault, NotOpen, NoSuchFile, AlreadyOpen, NoSuchNode, NotAChild, NoData, BadRange, LinkMissing, LinkChain, NotALink, Layout, NotEmpty, TooLarge, Full, NotFound, Syntax, LineTooLong}
 use Rattle.adf_model.specs.declared.error.EditError.{EditError}
 use Rattle.adf_model.specs.declared.tree.Edit.{Edit}
+use Rattle.adf_model.specs.declared.tree.Edit.TheVariants.{Delete, Rename, Move}
 use Rattle.adf_model.specs.declared.tree.NodeId.{NodeId}
 use Rattle.adf_model.specs.declared.tree.Query.{Query}
 use Rattle.adf_model.specs.declared.tree.Reply.{Reply}
@@ -18,10 +19,10 @@ use Rattle.adf_format.specs.HeapRule.{LimitReached, place_edit}
 use Rattle.adf_model.specs.Placing.{placed_as, place_group, group_cost}
 use Rattle.adf_model.specs.Untouched.{StaysBeside, KeepsRest, KeepsTail, group_touched}
 use Rattle.adf_model.specs.Torn.{TornAt, TornGroup}
-use Rattle.adf_model.specs.Slots.{Open, Slot, Standing, Files, standings, slot_at, is_gone, is_open, open_at, with_slot, Device, Devices, device_at, recorded_end}
+use Rattle.adf_model.specs.Slots.{Open, Slot, Standing, standing_of, Files, slot_at, is_gone, is_open, open_at, with_slot, Device, Devices, device_at, recorded_end}
 use Rattle.adf_model.specs.Slots.Slot.{Gone, Raw, Saved, Live}
 use Rattle.adf_model.specs.Calls.{tests_of_files, Group, tests_at_entry, edit_group}
-use Rattle.adf_model.specs.Answers.{answer, refusal_at_entry, file_answer, asked_node}
+use Rattle.adf_model.specs.Answers.{answer, refusal_at_entry, file_answer, asked_node, goes_through_links, may_refuse}
 
 -- a count rose: it is higher, or stands at the end of its type
 abbrev pub Rose : ℕ → ℕ → Type 0
@@ -30,6 +31,10 @@ Rose before now = min (before + 1) (2 ^ 64 - 1) ≤ now
 -- the call failed to read from some device
 abbrev pub SomeFault : Devices → Devices → Type 0
 SomeFault before now = (number : ℕ) × Rose (device_at before number).faults (device_at now number).faults
+
+-- the call failed to read from the device of an open file
+abbrev pub SomeOpenFault : Files → Devices → Devices → Type 0
+SomeOpenFault files before now = (number : ℕ) × (is_open (slot_at files number) ≡ true) × Rose (device_at before number).faults (device_at now number).faults
 
 -- a device that was not written: only its count of faults may be higher
 pub record OnlyRead (before now : Device) : Type 0 where
@@ -75,17 +80,6 @@ IsRefusedBy None result = Unit {0}
 IsRefusedBy (Some error) (Ok value) = ⊥
 IsRefusedBy (Some error) (Err given) = IsMemoryOr error given
 
--- where the files alone decide the first edit of a group, its answer is theirs or want of memory
-abbrev pub IsGroupRefusedBy : {A : Type 0} → Option AdfError → Result A EditError → Type 0
-IsGroupRefusedBy None result = Unit {0}
-IsGroupRefusedBy (Some error) (Ok value) = ⊥
-IsGroupRefusedBy (Some error) (Err refusal) = (refusal.at ≡ 0) × IsMemoryOr error refusal.error
-
--- what the files alone say of the first edit
-abbrev pub refusal_of_first : Files → List Edit → Option AdfError
-refusal_of_first files [] = None
-refusal_of_first files (edit ∷ edits) = first_refusal (tests_of_files files (named_nodes edit))
-
 -- want of memory, which is always free; a failed read, where no refusal at entry comes first; else the answer wanted
 abbrev pub IsFaultOr : {A : Type 0} → Option AdfError → Result A AdfError → Result A AdfError → Type 0
 IsFaultOr at_entry wanted (Err Memory) = Unit {0}
@@ -121,6 +115,17 @@ HasReadCause before now (Ok value) = Unit {0}
 HasReadCause before now (Err ReadFault) = SomeFault before now
 HasReadCause before now (Err error) = IsTrue (is_query_error error)
 
+-- a failed read is one of the node's own file, or, where links may be followed, of some open file
+abbrev pub HasReadFault : Bool → ℕ → Files → Devices → Devices → Type 0
+HasReadFault true file files before now = SomeOpenFault files before now
+HasReadFault false file files before now = Rose (device_at before file).faults (device_at now file).faults
+
+-- a query is refused under its cause, and with no error of another call
+abbrev pub HasQueryCause : {A : Type 0} → Files → Query → Devices → Devices → Result A AdfError → Type 0
+HasQueryCause files query before now (Ok value) = Unit {0}
+HasQueryCause files query before now (Err ReadFault) = HasReadFault (goes_through_links query) (asked_node query).file files before now
+HasQueryCause files query before now (Err error) = IsTrue (may_refuse query error)
+
 -- the errors of other calls than a group of edits
 abbrev pub is_foreign_to_edits : AdfError → Bool
 is_foreign_to_edits AlreadyOpen = true
@@ -131,35 +136,27 @@ is_foreign_to_edits Syntax = true
 is_foreign_to_edits LineTooLong = true
 is_foreign_to_edits error = false
 
--- a failed read has a fault of a device as its cause, a failed write that of a device that was to be written
-abbrev pub HasCauseOf : Devices → Devices → AdfError → Type 0
-HasCauseOf before now ReadFault = SomeFault before now
-HasCauseOf before now WriteFault = (number : ℕ) × WriteFailed (device_at before number) (device_at now number)
-HasCauseOf before now error = is_foreign_to_edits error ≡ false
+-- a failed read in a group is one of an open file
+abbrev pub HasCauseOf : Files → Devices → Devices → AdfError → Type 0
+HasCauseOf files before now ReadFault = SomeOpenFault files before now
+HasCauseOf files before now error = is_foreign_to_edits error ≡ false
 
--- an answer of a group that is a fault has a device's fault as its cause
-abbrev pub HasGroupCause : {A : Type 0} → Devices → Devices → Result A EditError → Type 0
-HasGroupCause before now (Ok value) = Unit {0}
-HasGroupCause before now (Err refusal) = HasCauseOf before now refusal.error
+-- a group is refused under its cause, and with no error of another call
+abbrev pub HasGroupCause : {A : Type 0} → Files → Devices → Devices → Result A EditError → Type 0
+HasGroupCause files before now (Ok value) = Unit {0}
+HasGroupCause files before now (Err refusal) = HasCauseOf files before now refusal.error
 
--- after a group the files stand as before; but after a failed write that open file is broken whose device failed
-abbrev pub LeavesStandingsBy : AdfError → Files → Devices → Devices → Files → Type 0
-LeavesStandingsBy WriteFault files before now after =
-    (number : ℕ) × (is_open (slot_at files number) ≡ true) × WriteFailed (device_at before number) (device_at now number) × (standings after ≡ slice_set (standings files) number Standing.Failed)
-LeavesStandingsBy error files before now after = standings after ≡ standings files
+-- the file of a group that its first edit names, where that edit follows no link
+abbrev pub own_file : List Edit → Option ℕ
+own_file [] = None
+own_file (Delete node ∷ edits) = Some node.file
+own_file (Rename node wanted ∷ edits) = Some node.file
+own_file (Move node to ∷ edits) = Some node.file
+own_file (edit ∷ edits) = None
 
-abbrev pub LeavesStandings : {A : Type 0} → Result A EditError → Files → Devices → Devices → Files → Type 0
-LeavesStandings (Ok value) files before now after = standings after ≡ standings files
-LeavesStandings (Err refusal) files before now after = LeavesStandingsBy refusal.error files before now after
-
--- a refused group has written nothing, but where a write failed
-abbrev pub RefusalReadsBy : AdfError → Devices → Devices → Type 0
-RefusalReadsBy WriteFault before now = Unit {0}
-RefusalReadsBy error before now = OthersOnlyRead None before now
-
-abbrev pub RefusalReads : {A : Type 0} → Result A EditError → Devices → Devices → Type 0
-RefusalReads (Ok value) before now = Unit {0}
-RefusalReads (Err refusal) before now = RefusalReadsBy refusal.error before now
+-- a group may write this file: it is open for editing, and the one that the first edit names
+abbrev pub MayEdit : Files → List Edit → ℕ → Type 0
+MayEdit files edits number = (standing_of (slot_at files number) ≡ Standing.Editing) × IfSome (own_file edits) (λ own. number ≡ own)
 
 -- what one file may answer to a query
 abbrev pub IsFileAnswer : Bool → Tree → Query → Result Reply AdfError → Type 0
@@ -185,7 +182,7 @@ pub record StopsAt (files : Files) (edits : List Edit) (at : ℕ) : Type 0 where
 pub record ReadStops (files : Files) (before now : Devices) (edits : List Edit) (at : ℕ) : Type 0 where
   pub stop : StopsAt files edits at
   pub entered : first_refusal (tests_at_entry stop.group.files (named_nodes stop.edit)) ≡ None
-  pub fault : SomeFault before now
+  pub fault : SomeOpenFault files before now
 
 -- this edit is not refused otherwise, and the edits up to it may need more than the limit leaves
 pub record RoomStops (files : Files) (devices : Devices) (edits : List Edit) (at : ℕ) : Type 0 where
@@ -209,6 +206,7 @@ pub record CommitStops (files : Files) (before now : Devices) (edits : List Edit
   pub others : OthersOnlyRead (Some number) before now
   pub placed : OthersStayPlaced (Some number) before now
   pub failed : WriteFailed (device_at before number) (device_at now number)
+  pub own : MayEdit files edits number
   pub was : Open
   pub entered : open_at files number ≡ Some was
   pub opened : Open
@@ -228,6 +226,7 @@ pub record Edited (files : Files) (before now : Devices) (edits : List Edit) (cr
   pub trees : after ≡ group.files
   pub others : OthersOnlyRead group.file before now
   pub placed : OthersStayPlaced group.file before now
+  pub own : (number : ℕ) → group.file ≡ Some number → MayEdit files edits number
   pub told : (number : ℕ) → group.file ≡ Some number → IsSome (device_at before number).held → IsSome (device_at now number).held
 
 -- a refusal that leaves all files, under its cause
@@ -455,22 +454,6 @@ IsOpening files before number opening limit (Err error) now after =
     × (after ≡ after_refusal files number error)
     × RefusalWrites error opening number before now
 
--- how a file stands that was opened
-abbrev pub standing_by : Opening → Standing
-standing_by (Fresh wide) = Standing.Editing
-standing_by (Stored writable) = if writable then Standing.Editing else Standing.Reading
-
--- also where devices do not tell: a done opening opens the file, a refused one leaves all as they stand
-abbrev pub OpensStanding : Opening → ℕ → Result Unit AdfError → Files → Files → Type 0
-OpensStanding opening number (Ok done) before after = standings after ≡ slice_set (standings before) number (standing_by opening)
-OpensStanding opening number (Err error) before after = standings after ≡ standings before
-
--- a failed read or write of an opening has a fault of the file's own device as its cause
-abbrev pub HasOpenCause : Device → Device → Result Unit AdfError → Type 0
-HasOpenCause before now (Err ReadFault) = Rose before.faults now.faults
-HasOpenCause before now (Err WriteFault) = WriteFailed before now
-HasOpenCause before now result = Unit {0}
-
 -- the file whose parts a call may have placed anew: none where the call is refused
 abbrev pub placed_anew : Result Unit AdfError → ℕ → Option ℕ
 placed_anew (Ok done) number = Some number
@@ -498,7 +481,7 @@ abbrev pub Step : Files → Devices → Call → Devices → Files → Type 0
 Step files before (Opened number opening limit result) now after = IsOpening files before number opening limit result now after × OthersStayPlaced (placed_anew result number) before now
 Step files before (Closed number result) now after = IsClose files number result after × OthersOnlyRead None before now × OthersStayPlaced (placed_anew result number) before now
 Step files before (Discarded number result) now after = IsDiscard files number result after × DropsOne number result before now × OthersStayPlaced (placed_anew result number) before now
-Step files before (Asked query result) now after = IsAnswer files query result × HasReadCause before now result × (after ≡ files) × OthersOnlyRead None before now × OthersStayPlaced None before now
+Step files before (Asked query result) now after = IsAnswer files query result × HasQueryCause files query before now result × (after ≡ files) × OthersOnlyRead None before now × OthersStayPlaced None before now
 Step files before (Changed edits result) now after = IsEdit files before edits result now after × IsPlacedGroup files before edits result now × IsUntouchedGroup files before edits result now
 Step files before Skipped now after = (now ≡ before) × (after ≡ files)
 Step files before (Misread error) now after = IsLineError error × (now ≡ before) × (after ≡ files)

@@ -1,12 +1,8 @@
 //! What answers queries and edits of trees.
 
-ghost use Rattle.std.specs.Prelude.{[], ◌∷◌};
-ghost use Rattle.adf_model.specs.Tests.{first_refusal};
 ghost use Rattle.adf_model.specs.Slots.{Files, Devices, IsTold, AreTrees};
-ghost use Rattle.adf_model.specs.Calls.{tests_of_files};
-ghost use Rattle.adf_model.specs.Answers.{asked_node};
-ghost use Rattle.adf_model.specs.Steps.{IsAnswer, IsRefusedBy, HasReadCause};
-ghost use Rattle.adf_model.specs.Promises.{OnlyAsks, Edits};
+ghost use Rattle.adf_model.specs.Steps.{Asked, Changed};
+ghost use Rattle.adf_model.specs.Runs.{Makes};
 
 use crate::error::{AdfError, EditError};
 use crate::lists::Serials;
@@ -28,15 +24,12 @@ pub trait TreeCalls {
         requires ready { is_ready self.old }
         ensures ready { is_ready self.new }
         ensures trees { IsTold (files self.old) (devices self.old) → AreTrees (files self.old) }
-        ensures leaves { OnlyAsks (files self.old) (devices self.old) (devices self.new) (files self.new) }
-        ensures answer { IsTold (files self.old) (devices self.old) → IsAnswer (files self.old) query.now result }
-        ensures refused { IsRefusedBy (first_refusal (tests_of_files (files self.old) (asked_node query.now ∷ []))) result }
-        ensures cause { HasReadCause (devices self.old) (devices self.new) result };
+        ensures asked { Makes (files self.old) (devices self.old) (Asked query.now result) (devices self.new) (files self.new) };
 
     /// Does all edits of a group, or none.
     fn edit(&mut self, edits: &[Edit]) -> Result<Serials, EditError>
         requires ready { is_ready self.old }
         ensures ready { is_ready self.new }
         ensures trees { IsTold (files self.old) (devices self.old) → AreTrees (files self.old) }
-        ensures edits { Edits (files self.old) (devices self.old) edits.now result (devices self.new) (files self.new) };
+        ensures edited { Makes (files self.old) (devices self.old) (Changed edits.now result) (devices self.new) (files self.new) };
 }

@@ -104,7 +104,7 @@ pub fn torn_writes_stay_small()
 pub fn writes_are_bounded()
     ensures call { (one : ℕ) (files after : Files) (before now : Devices) (call : Call) → Step files before call now after →
         (device_at now one).writes ≤ (device_at before one).writes + call_cost one files before call }
-    ensures run { (one : ℕ) (files after : Files) (before now : Devices) (calls : List Call) (cost : ℕ) → RunCosts one files before calls now after cost →
+    ensures run { (one : ℕ) (files after : Files) (before now : Devices) (calls : List Call) (cost : ℕ) → IsTold files before → RunCosts one files before calls now after cost →
         (device_at now one).writes ≤ (device_at before one).writes + cost }
     ensures each { (one : ℕ) (files after : Files) (before now : Devices) (calls : List Call) → Run files before calls now after →
         (cost : ℕ) × RunCosts one files before calls now after cost }

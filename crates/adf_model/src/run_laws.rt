@@ -36,7 +36,7 @@ pub fn fresh_files_are_known()
 /// A file that was opened as a fresh one, broken by a failed write and closed is not opened as a fresh
 /// one again over its bytes.
 pub fn no_fresh_file_over_bytes()
-    ensures { (files after : Files) (before now : Devices) (number limit more at : ℕ) (wide other : Bool) (edits : List Edit) (result : Result Unit AdfError) → IsSome (device_at before number).held →
+    ensures { (files after : Files) (before now : Devices) (number limit more at : ℕ) (wide other : Bool) (edits : List Edit) (result : Result Unit AdfError) → IsTold files before →
         Run files before (Opened number (Fresh wide) limit (Ok tt) ∷ Changed edits (Err (record { at = at; error = AdfError.WriteFault })) ∷ Closed number (Ok tt) ∷ Opened number (Fresh other) more result ∷ []) now after →
         (result ≡ Err AdfError.Memory) ⊎ ((result ≡ Err AdfError.ReadFault) ⊎ (result ≡ Err AdfError.NotEmpty)) }
 {}

@@ -12,11 +12,12 @@ ghost use Rattle.adf_model.specs.declared.tree.NodeId.{NodeId};
 ghost use Rattle.adf_model.specs.Tests.{first_refusal};
 ghost use Rattle.adf_model.specs.Edits.{file_tests_at_entry, file_step, named_nodes};
 ghost use Rattle.adf_model.specs.Placing.{placed_as};
-ghost use Rattle.adf_model.specs.Slots.{Standing, Files, Device, Devices, device_at, standings, slot_at, is_gone, number_of, entry_files};
-ghost use Rattle.adf_model.specs.Steps.{Rose, WriteFailed, Opening, IsOpening, OpensStanding, HasOpenCause, standing_by, IsEdit, LeavesStandings, IsFileRefusal, IsLineError, Step, Misread};
+ghost use Rattle.adf_model.specs.Slots.{Standing, Files, Devices, device_at, standings, slot_at, is_gone, names_there, number_of, entry_files};
+ghost use Rattle.adf_model.specs.Steps.{Rose, WriteFailed, Opening, close_tests, open_tests, IsEdit, IsFileRefusal, IsLineError, Opened, Closed, Discarded, Step, Misread};
+ghost use Rattle.adf_model.specs.Causes.{OpensStanding, HasOpenCause, standing_by, OpenedAnyway, MovesStanding, ClosedAnyway, DiscardedAnyway, GroupLeaves};
 
 /// A done opening changes how its own file stands alone, a refused one changes none; and what may be
-/// answered over devices that tell leaves the files so, under a fault of the file's own device.
+/// answered over devices that tell is so in any case.
 pub fn openings_stand()
     ensures refused { (opening : Opening) (number one : ℕ) (error : AdfError) (before after : Files) → OpensStanding opening number (Err error) before after →
         slice_get (standings after) one ≡ slice_get (standings before) one }
@@ -25,22 +26,39 @@ pub fn openings_stand()
     ensures done { (opening : Opening) (number : ℕ) (before after : Files) → OpensStanding opening number (Ok tt) before after → is_gone (slot_at before number) ≡ false →
         slice_get (standings after) number ≡ Some (standing_by opening) }
     ensures told { (files after : Files) (before now : Devices) (number limit : ℕ) (opening : Opening) (result : Result Unit AdfError) →
-        IsOpening files before number opening limit result now after → OpensStanding opening number result files after }
-    ensures causes { (files after : Files) (before now : Devices) (number limit : ℕ) (opening : Opening) (result : Result Unit AdfError) →
-        IsOpening files before number opening limit result now after → HasOpenCause (device_at before number) (device_at now number) result }
-    ensures silent { (before now : Device) (result : Result Unit AdfError) → (Rose before.faults now.faults → ⊥) → HasOpenCause before now result →
-        (result ≢ Err AdfError.ReadFault) × (result ≢ Err AdfError.WriteFault) }
+        Step files before (Opened number opening limit result) now after → OpenedAnyway files before number opening result now after }
+{}
+
+/// Also over devices that tell nothing an opening answers a failed read or write only where a count of
+/// the file's own device rose, so not since the device is of another length than before; and no error
+/// that an opening cannot have.
+pub fn openings_have_causes()
+    ensures silent { (files : Files) (number : ℕ) (opening : Opening) (before now : Devices) (result : Result Unit AdfError) → (Rose (device_at before number).faults (device_at now number).faults → ⊥) →
+        HasOpenCause files number opening before now result → (result ≢ Err AdfError.ReadFault) × (result ≢ Err AdfError.WriteFault) }
+    ensures no_room { (files : Files) (number : ℕ) (opening : Opening) (before now : Devices) (asked end : ℕ) → HasOpenCause files number opening before now (Err (AdfError.Full asked end)) → ⊥ }
+    ensures no_node { (files : Files) (number : ℕ) (opening : Opening) (before now : Devices) → HasOpenCause files number opening before now (Err AdfError.NoSuchNode) → ⊥ }
+    ensures no_other_file { (files : Files) (number : ℕ) (opening : Opening) (before now : Devices) → HasOpenCause files number opening before now (Err AdfError.OtherFile) → ⊥ }
+{}
+
+/// What a closing and a discarding over devices that tell may answer and leave, they may in any case;
+/// and neither lacks memory.
+pub fn closings_stand()
+    ensures closed { (files after : Files) (before now : Devices) (number : ℕ) (result : Result Unit AdfError) → Step files before (Closed number result) now after → ClosedAnyway files before number result now after }
+    ensures discarded { (files after : Files) (before now : Devices) (number : ℕ) (result : Result Unit AdfError) → Step files before (Discarded number result) now after → DiscardedAnyway files before number result now after }
+    ensures close_has_memory { (files after : Files) (number : ℕ) → MovesStanding (close_tests files number) Standing.Closed number (Err AdfError.Memory) files after → ⊥ }
+    ensures discard_has_memory { (files after : Files) (number : ℕ) → MovesStanding (open_tests files number) Standing.Absent number (Err AdfError.Memory) files after → ⊥ }
 {}
 
 /// After a failed write the one file stands failed whose device rose in writes, and no other changes;
 /// where no write failed, none changes. What may be answered over devices that tell leaves the files so.
 pub fn groups_stand()
-    ensures failed { (at : ℕ) (files after : Files) (before now : Devices) → LeavesStandings {A = List NodeId} (Err (record { at = at; error = AdfError.WriteFault })) files before now after →
+    ensures failed { (at : ℕ) (files after : Files) (before now : Devices) (edits : List Edit) → GroupLeaves {A = List NodeId} (Err (record { at = at; error = AdfError.WriteFault })) files before edits now after →
         (number : ℕ) × Rose (device_at before number).writes (device_at now number).writes × (slice_get (standings after) number ≡ Some Standing.Failed)
         × ((one : ℕ) → one ≢ number → slice_get (standings after) one ≡ slice_get (standings files) one) }
-    ensures others { (result : Result (List NodeId) EditError) (files after : Files) (before now : Devices) →
-        ((number : ℕ) → WriteFailed (device_at before number) (device_at now number) → ⊥) → LeavesStandings result files before now after → standings after ≡ standings files }
-    ensures told { (files after : Files) (before now : Devices) (edits : List Edit) (result : Result (List NodeId) EditError) → IsEdit files before edits result now after → LeavesStandings result files before now after }
+    ensures others { (result : Result (List NodeId) EditError) (files after : Files) (before now : Devices) (edits : List Edit) →
+        ((number : ℕ) → WriteFailed (device_at before number) (device_at now number) → ⊥) → GroupLeaves result files before edits now after → standings after ≡ standings files }
+    ensures told { (files after : Files) (before now : Devices) (edits : List Edit) (result : Result (List NodeId) EditError) → IsEdit files before edits result now after → GroupLeaves result files before edits now after }
+    ensures names { (files after : Files) (before now : Devices) (edits : List Edit) (result : Result (List NodeId) EditError) → IsEdit files before edits result now after → names_there after ≡ names_there files }
 {}
 
 /// One file refuses an edit first by its entry; and one that its tree does not refuse only for want

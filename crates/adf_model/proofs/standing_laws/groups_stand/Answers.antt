@@ -1,5 +1,5 @@
 use Rattle.adf_model.proofs.StandingLaws.{failed_stands, silent_group}
-use Rattle.adf_model.proofs.GroupStands.{told_group}
+use Rattle.adf_model.proofs.GroupStands.{told_group, told_names}
 use Rattle.adf_model.proofs.standing_laws.groups_stand.Goals as goal
 
 pub returns-clause-failed : goal.returns-clause-failed
@@ -10,3 +10,6 @@ returns-clause-others c = silent_group
 
 pub returns-clause-told : goal.returns-clause-told
 returns-clause-told c = told_group
+
+pub returns-clause-names : goal.returns-clause-names
+returns-clause-names c = told_names

@@ -1,4 +1,4 @@
-use Rattle.adf_model.proofs.StandingLaws.{refused_stand, others_stand, opened_stands, told_stand, told_causes, silent_opening}
+use Rattle.adf_model.proofs.StandingLaws.{refused_stand, others_stand, opened_stands, opening_anyway}
 use Rattle.adf_model.proofs.standing_laws.openings_stand.Goals as goal
 
 pub returns-clause-refused : goal.returns-clause-refused
@@ -11,10 +11,4 @@ pub returns-clause-done : goal.returns-clause-done
 returns-clause-done c = opened_stands
 
 pub returns-clause-told : goal.returns-clause-told
-returns-clause-told c = told_stand
-
-pub returns-clause-causes : goal.returns-clause-causes
-returns-clause-causes c = told_causes
-
-pub returns-clause-silent : goal.returns-clause-silent
-returns-clause-silent c = silent_opening
+returns-clause-told c files after before now number limit opening result h = opening_anyway files after before now number limit opening result h.0 h.1
