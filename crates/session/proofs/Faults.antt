@@ -1,35 +1,16 @@
--- Answers of failed reads and writes are at most as many as the faults of the devices, also where parts stand behind the end.
-use Rattle.std.proofs.Common.{◌+◌, ◌≤◌, List, [], ◌∷◌, arith, le_trans}
-use Rattle.adf_model.specs.Slots.{Files, Devices}
-use Rattle.adf_model.specs.Steps.{Call, Opened, Closed, Discarded, Asked, Changed, Skipped, Misread, NoCountFell}
-use Rattle.adf_model.specs.FaultReplies.{fault_reply, fault_replies, total_faults}
-use Rattle.adf_model.proofs.FaultBound.{Below, same_counts, stayed, step_counts, step_bound, edit_counts, edit_bound, below_before}
-use Rattle.session.specs.Calls.{PlainStep}
-use Rattle.session.specs.Turns.{Turn, Ran, calls_of}
+-- What a run of turns leaves in any case, and over devices that tell.
+use Rattle.std.proofs.Common.{◌≡◌, ◌+◌, ◌≤◌, ◌∙◌, ℕ, List, [], ◌∷◌, Option, arith, le_trans, refl, sym, ap, subst}
+use Rattle.adf_model.specs.Slots.{Files, Devices, IsTold}
+use Rattle.adf_model.specs.Steps.{NoCountFell, AllLaidOut}
+use Rattle.adf_model.specs.FaultReplies.{fault_replies, total_faults}
+use Rattle.adf_model.proofs.FaultBound.{Below, same_counts, stayed, any_counts, any_bound, below_before}
+use Rattle.adf_model.proofs.RunLaws.{told_for}
+use Rattle.session.specs.Turns.{Turn, Ran, Stepped, calls_of}
 
-module _ (before now : Devices) (files after : Files) where
-  turn_counts : (call : Call) → PlainStep files before call now after → NoCountFell before now
-  turn_counts (Opened number opening limit result) h = step_counts before now files after (Opened number opening limit result) h
-  turn_counts (Closed number result) h = step_counts before now files after (Closed number result) h
-  turn_counts (Discarded number result) h = step_counts before now files after (Discarded number result) h
-  turn_counts (Asked query result) h = step_counts before now files after (Asked query result) h
-  turn_counts (Changed edits result) h = edit_counts before now files after edits result h
-  turn_counts Skipped h = step_counts before now files after Skipped h
-  turn_counts (Misread error) h = step_counts before now files after (Misread error) h
-
-  turn_bound : (call : Call) → Below now → PlainStep files before call now after → total_faults before + fault_reply call ≤ total_faults now
-  turn_bound (Opened number opening limit result) below h = step_bound before now files after (Opened number opening limit result) below h
-  turn_bound (Closed number result) below h = step_bound before now files after (Closed number result) below h
-  turn_bound (Discarded number result) below h = step_bound before now files after (Discarded number result) below h
-  turn_bound (Asked query result) below h = step_bound before now files after (Asked query result) below h
-  turn_bound (Changed edits result) below h = edit_bound before now files after edits result below h
-  turn_bound Skipped below h = step_bound before now files after Skipped below h
-  turn_bound (Misread error) below h = step_bound before now files after (Misread error) below h
-
-ran_counts : (files after : Files) (before now : Devices) (turns : List Turn) → Ran files before turns now after → NoCountFell before now
+pub ran_counts : (files after : Files) (before now : Devices) (turns : List Turn) → Ran files before turns now after → NoCountFell before now
 ran_counts files after before now [] h = same_counts before now h.0
 ran_counts files after before now (turn ∷ turns) h = λ number.
-    let first = turn_counts before h.1 files h.0 turn.call h.2.1 number in
+    let first = any_counts before h.1 files h.0 turn.call h.2.1.anyway number in
     let rest = ran_counts h.0 after h.1 now turns h.3 number in
     record { faults = le_trans first.faults rest.faults; lost = le_trans first.lost rest.lost; writes = le_trans first.writes rest.writes }
 
@@ -37,6 +18,20 @@ pub ran_bound : (files after : Files) (before now : Devices) (turns : List Turn)
 ran_bound files after before now [] below h = stayed before now (same_counts before now h.0)
 ran_bound files after before now (turn ∷ turns) below h =
     let rest = ran_counts h.0 after h.1 now turns h.3 in
-    let first = turn_bound before h.1 files h.0 turn.call (below_before h.1 now rest below) h.2.1 in
+    let first = any_bound before h.1 files h.0 turn.call (below_before h.1 now rest below) h.2.1.anyway in
     let more = ran_bound h.0 after h.1 now turns below h.3 in
     omega (arith, first, more)
+
+pub ran_told : (files after : Files) (before now : Devices) (turns : List Turn) → Ran files before turns now after → IsTold files before → IsTold after now
+ran_told files after before now [] h told = subst (λ (f : Files). IsTold f now) (sym h.1) (subst (λ (d : Devices). IsTold files d) (sym h.0) told)
+ran_told files after before now (turn ∷ turns) h told = ran_told h.0 after h.1 now turns h.3 (λ number. h.2.1.layouts.told number (told number))
+
+pub ran_laid_out : (files after : Files) (before now : Devices) (turns : List Turn) → Ran files before turns now after → AllLaidOut files before → AllLaidOut after now
+ran_laid_out files after before now [] h laid = subst (λ (f : Files). AllLaidOut f now) (sym h.1) (subst (λ (d : Devices). AllLaidOut files d) (sym h.0) laid)
+ran_laid_out files after before now (turn ∷ turns) h laid = ran_laid_out h.0 after h.1 now turns h.3 (λ number. h.2.1.layouts.laid_out number (laid number))
+
+-- where all devices tell, each turn is a step
+pub ran_steps : (files after : Files) (before now : Devices) (turns : List Turn) → Ran files before turns now after → IsTold files before → Stepped files before turns now after
+ran_steps files after before now [] h told = h
+ran_steps files after before now (turn ∷ turns) h told =
+    (h.0, h.1, h.2.0, h.2.1.step (told_for files before turn.call told), ran_steps h.0 after h.1 now turns h.3 (λ number. h.2.1.layouts.told number (told number)))

@@ -5,8 +5,8 @@ use Rattle.std.proofs.lemmas.Grind.{flat_map-append}
 use Rattle.std.specs.Io.KnownBytes.{Consumes, Appends, IsAtEnd, prepend_known}
 use Rattle.std.proofs.KnownBytes.{Appends-nil, Appends-trans, Consumes-trans, Consumes-nil}
 use Rattle.adf_model.specs.Slots.{Files, Devices}
-use Rattle.adf_model.specs.Steps.{Call, NoCountFell}
-use Rattle.session.specs.Calls.{PlainStep}
+use Rattle.adf_model.specs.Steps.{Call}
+use Rattle.session.specs.Calls.{PlainMakes}
 use Rattle.session.specs.Input.{NoFeed, FirstLines, CutsLines, InputState, Uses, UsesLine, HasStopped, HasReason}
 use Rattle.session.specs.Printed.{AppendsPart}
 use Rattle.session.specs.Turns.{Says, Turn, Ran, lines_of, replies_of, printed_reply}
@@ -54,7 +54,7 @@ one_reply : (turn : Turn) → replies_of (turn ∷ []) ≡ printed_reply turn.re
 one_reply turn = append-nil (printed_reply turn.reply)
 
 pub went : (files after : Files) (before now : Devices) (line : List ℕ) (reply : Option (List ℕ)) (text later taken put : Option (List ℕ))
-    → (made : Call) × Says line made reply × PlainStep files before made now after → CutsLines text (line ∷ []) later → Appends taken put (printed_reply reply)
+    → (made : Call) × Says line made reply × PlainMakes files before made now after → CutsLines text (line ∷ []) later → Appends taken put (printed_reply reply)
     → HasGoneOn (record { files = files; devices = before; text = text; taken = taken }) (record { files = after; devices = now; text = later; taken = put })
 went files after before now line reply text later taken put said cut printed =
     let turn : Turn = record { line = line; call = said.0; reply = reply } in
@@ -80,7 +80,7 @@ cut_prints ended.SinkFault turns printed cut part = part
 cut_prints ended.Memory turns printed cut part = part
 
 pub cut_short : (how : Ended) (files after : Files) (before now : Devices) (line pending : List ℕ) (reply : Option (List ℕ)) (text left taken put : Option (List ℕ))
-    → (made : Call) × Says line made reply × PlainStep files before made now after → CutsLines text (line ∷ []) (prepend_known pending left)
+    → (made : Call) × Says line made reply × PlainMakes files before made now after → CutsLines text (line ∷ []) (prepend_known pending left)
     → IsCut how × AppendsPart taken put (printed_reply reply)
     → HasRun how (record { files = files; devices = before; text = text; taken = taken }) (record { files = after; devices = now; text = left; taken = put })
 cut_short how files after before now line pending reply text left taken put said cut part =
@@ -222,8 +222,3 @@ pub all_taken : (how : Ended) (new : InputState) (before now : Option (List ℕ)
 all_taken how new before now used uses bounded =
     let count : new.taken ≡ length (used ++ new.pending) = omega (arith, uses.count, length-append used new.pending) in
     (used ++ new.pending, consumed_all before now used new.pending uses.text, subst (IsBounded how) count bounded)
-
--- ---- counts
-
-pub none_fell_on : (first middle now : Devices) → NoCountFell first middle → NoCountFell middle now → NoCountFell first now
-none_fell_on first middle now before after number = let one = before number in let two = after number in record { faults = omega arith; lost = omega arith; writes = omega arith }

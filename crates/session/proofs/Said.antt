@@ -16,7 +16,8 @@ use Rattle.call_script.specs.declared.calls.Call as script
 use Rattle.call_script.specs.declared.calls.Call.TheVariants as asks
 use Rattle.call_script.specs.declared.calls.OpenMode.{OpenMode}
 use Rattle.call_script.specs.declared.calls.OpenMode.TheVariants.{New}
-use Rattle.session.specs.Calls.{IsBuiltQuery, IsBuiltEdit, IsBuiltGroup, PlainStep}
+use Rattle.adf_model.specs.Causes.{Anyway}
+use Rattle.session.specs.Calls.{IsBuiltQuery, IsBuiltEdit, IsBuiltGroup, PlainStep, PlainMakes}
 use Rattle.session.specs.Turns.{call_made, IsBuilt, is_skipped, Says}
 use Rattle.session.specs.Turns.Says.{too_long, skips, makes, misreads, lacks_memory}
 
@@ -45,39 +46,43 @@ built line call is = built_tokens is.tokens call is.call_is
 
 -- an opening and a closing are made with the answer to them
 pub opened : (files after : Files) (before now : Devices) (number : ℕ) (mode : OpenMode) (limit : ℕ) (result : Result Unit AdfError) (said : Answer)
-    → OnOk result (said ≡ answer.Done) → IfErr result (λ error. said ≡ answer.Refused error) → PlainStep files before (Opened number (Fresh false) limit result) now after
-    → (made : Call) × (call_made (asks.Open number mode limit) said ≡ Some made) × PlainStep files before made now after
+    → OnOk result (said ≡ answer.Done) → IfErr result (λ error. said ≡ answer.Refused error) → PlainMakes files before (Opened number (Fresh false) limit result) now after
+    → (made : Call) × (call_made (asks.Open number mode limit) said ≡ Some made) × PlainMakes files before made now after
 opened files after before now number New limit (Ok done) said is _ step = (_, ap (call_made (asks.Open number New limit)) is, step)
 opened files after before now number New limit (Err error) said _ is step = (_, ap (call_made (asks.Open number New limit)) is, step)
 
 pub closed : (files after : Files) (before now : Devices) (number : ℕ) (result : Result Unit AdfError) (said : Answer)
-    → OnOk result (said ≡ answer.Done) → IfErr result (λ error. said ≡ answer.Refused error) → PlainStep files before (Closed number result) now after
-    → (made : Call) × (call_made (asks.Close number) said ≡ Some made) × PlainStep files before made now after
+    → OnOk result (said ≡ answer.Done) → IfErr result (λ error. said ≡ answer.Refused error) → PlainMakes files before (Closed number result) now after
+    → (made : Call) × (call_made (asks.Close number) said ≡ Some made) × PlainMakes files before made now after
 closed files after before now number (Ok done) said is _ step = (_, ap (call_made (asks.Close number)) is, step)
 closed files after before now number (Err error) said _ is step = (_, ap (call_made (asks.Close number)) is, step)
+
+-- a line that is no call changes nothing
+nothing_made : (files : Files) (before : Devices) (call : Call) → PlainStep files before call before files → Anyway files before call before files → PlainMakes files before call before files
+nothing_made files before call step anyway = record { step = λ told. step; layouts = record { told = λ number h. h; laid_out = λ number h. h }; anyway = anyway }
 
 -- a line that gives no call is said to be none, or lacks memory
 pub refused : (files : Files) (before : Devices) (line : List ℕ) (given : AdfError) → length line ≤ 2 ^ 20 → is_skipped line ≡ false
     → IsRefusal given → (given ≡ error.Syntax → (call : script.Call) → ¬ IsLine line call)
-    → (made : Call) × Says line made (Some (refusal_text given)) × PlainStep files before made before files
+    → (made : Call) × Says line made (Some (refusal_text given)) × PlainMakes files before made before files
 refused files before line given short kept why none =
     elim why [
-      | inl is ↦ subst (λ (e : AdfError). (made : Call) × Says line made (Some (refusal_text e)) × PlainStep files before made before files) (sym is) (Misread error.Syntax, misreads short kept (none is), (tt, refl, refl))
-      | inr is ↦ subst (λ (e : AdfError). (made : Call) × Says line made (Some (refusal_text e)) × PlainStep files before made before files) (sym is) (Misread error.Memory, lacks_memory short kept, (tt, refl, refl))
+      | inl is ↦ subst (λ (e : AdfError). (made : Call) × Says line made (Some (refusal_text e)) × PlainMakes files before made before files) (sym is) (Misread error.Syntax, misreads short kept (none is), nothing_made files before (Misread error.Syntax) (tt, refl, refl) (tt, refl, refl))
+      | inr is ↦ subst (λ (e : AdfError). (made : Call) × Says line made (Some (refusal_text e)) × PlainMakes files before made before files) (sym is) (Misread error.Memory, lacks_memory short kept, nothing_made files before (Misread error.Memory) (tt, refl, refl) (tt, refl, refl))
     ]
 
 -- a skipped line changes nothing
 pub skipped : (files : Files) (before : Devices) (line : List ℕ) → length line ≤ 2 ^ 20 → is_skipped line ≡ true
-    → (made : Call) × Says line made None × PlainStep files before made before files
-skipped files before line given skip = (Skipped, skips given skip, (refl, refl))
+    → (made : Call) × Says line made None × PlainMakes files before made before files
+skipped files before line given skip = (Skipped, skips given skip, nothing_made files before Skipped (refl, refl) (refl, refl))
 
 -- a call that was made for a line
 pub answered : (files after : Files) (before now : Devices) (line : List ℕ) (call : script.Call) (said : Answer) → length line ≤ 2 ^ 20 → is_skipped line ≡ false → IsLine line call
-    → (made : Call) × (call_made call said ≡ Some made) × PlainStep files before made now after
-    → (made : Call) × Says line made (Some (reply_line said)) × PlainStep files before made now after
+    → (made : Call) × (call_made call said ≡ Some made) × PlainMakes files before made now after
+    → (made : Call) × Says line made (Some (reply_line said)) × PlainMakes files before made now after
 answered files after before now line call said given kept is step = (step.0, makes given kept call said step.0 is step.1, step.2)
 
 -- a line that is too long changes nothing
 pub too_long_turn : (files : Files) (before : Devices) (line : List ℕ) → 2 ^ 20 < length line
-    → (made : Call) × Says line made (Some (refusal_text error.LineTooLong)) × PlainStep files before made before files
-too_long_turn files before line long = (Misread error.LineTooLong, too_long long, (tt, refl, refl))
+    → (made : Call) × Says line made (Some (refusal_text error.LineTooLong)) × PlainMakes files before made before files
+too_long_turn files before line long = (Misread error.LineTooLong, too_long long, nothing_made files before (Misread error.LineTooLong) (tt, refl, refl) (tt, refl, refl))

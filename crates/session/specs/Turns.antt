@@ -11,7 +11,7 @@ use Rattle.call_script.specs.declared.calls.Answer.TheVariants as answer
 use Rattle.call_script.specs.declared.calls.Call as script
 use Rattle.call_script.specs.declared.calls.Call.TheVariants as asks
 use Rattle.call_script.specs.declared.calls.OpenMode.TheVariants.{New}
-use Rattle.session.specs.Calls.{IsBuiltQuery, IsBuiltGroup, PlainStep}
+use Rattle.session.specs.Calls.{IsBuiltQuery, IsBuiltGroup, PlainStep, PlainMakes}
 
 -- the call of a line with what was answered to it: none, where such a call has no such answer
 abbrev pub call_made : script.Call → Answer → Option Call
@@ -53,12 +53,18 @@ pub record Turn : Type 0 where
 
 -- a turn, from these files and devices to those
 abbrev pub IsTurn : Files → Devices → Turn → Devices → Files → Type 0
-IsTurn files before turn now after = Says turn.line turn.call turn.reply × PlainStep files before turn.call now after
+IsTurn files before turn now after = Says turn.line turn.call turn.reply × PlainMakes files before turn.call now after
 
 -- turns one after another
 abbrev pub Ran : Files → Devices → List Turn → Devices → Files → Type 0
 Ran files before [] now after = (now ≡ before) × (after ≡ files)
 Ran files before (turn ∷ turns) now after = (middle : Files) × (between : Devices) × IsTurn files before turn between middle × Ran middle between turns now after
+
+-- the same where each is a step of the trees
+abbrev pub Stepped : Files → Devices → List Turn → Devices → Files → Type 0
+Stepped files before [] now after = (now ≡ before) × (after ≡ files)
+Stepped files before (turn ∷ turns) now after =
+    (middle : Files) × (between : Devices) × Says turn.line turn.call turn.reply × PlainStep files before turn.call between middle × Stepped middle between turns now after
 
 abbrev pub calls_of : List Turn → List Call
 calls_of turns = map (λ (turn : Turn). turn.call) turns

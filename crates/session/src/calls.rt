@@ -1,19 +1,19 @@
 //! The calls that the lines of a session make.
 
-ghost use Rattle.std.specs.Prelude.{◌≡◌, ◌≤◌, ◌^◌, false, IfOk, IfErr};
-ghost use Rattle.adf_model.specs.Slots.{Files, Devices, IsTold};
-ghost use Rattle.adf_model.specs.Steps.{AllLaidOut, NoCountFell, Fresh, Opened, Closed, Asked, Changed};
+ghost use Rattle.std.specs.Prelude.{◌≤◌, ◌^◌, false, IfErr};
+ghost use Rattle.adf_model.specs.Slots.{Files, Devices};
+ghost use Rattle.adf_model.specs.Steps.{Fresh, Opened, Closed, Asked, Changed};
 ghost use Rattle.call_script.specs.Replies.{HasRule};
-ghost use Rattle.session.specs.Calls.{IsBuiltQuery, IsBuiltGroup, IsReplyTo, PlainStep, names_there};
+ghost use Rattle.session.specs.Calls.{IsBuiltQuery, IsBuiltGroup, PlainMakes};
 
 use adf_model::{AdfError, Edit, EditError, Query, Reply, Serials};
 
 /// Files under numbers, which the lines of a session open, ask, edit and close.
 ///
-/// Where the devices tell their bytes, each call is a step of the abstract trees, and each tree that
-/// is open or was closed in this session is laid out by the bytes of its device. Whether they tell or
-/// not, each file that is there stays there under its number and its name. Where a refusal names a
-/// rule of the layout, the rule has one or two digits.
+/// Where the devices that it touches tell their bytes, a call is a step of the abstract trees; and each
+/// tree that is open or was closed in this session is laid out by the bytes of its device. Whether they
+/// tell or not, each file that is there stays there under its number and its name, and each refusal has
+/// its cause. Where a refusal names a rule of the layout, the rule has one or two digits.
 pub trait FileCalls {
     /// The files by their numbers, with the trees of those that are open.
     ghost files: { Self → Files };
@@ -29,22 +29,14 @@ pub trait FileCalls {
         requires ready { is_ready self.old }
         requires limit { (1 ≤ limit) × (limit ≤ 2 ^ 32) }
         ensures ready { is_ready self.new }
-        ensures told { IsTold (files self.old) (devices self.old) → IsTold (files self.new) (devices self.new) }
-        ensures step { IsTold (files self.old) (devices self.old) → PlainStep (files self.old) (devices self.old) (Opened number (Fresh false) limit result) (devices self.new) (files self.new) }
-        ensures laid_out { IsTold (files self.old) (devices self.old) → AllLaidOut (files self.old) (devices self.old) → AllLaidOut (files self.new) (devices self.new) }
-        ensures counts { NoCountFell (devices self.old) (devices self.new) }
-        ensures names { names_there (files self.new) ≡ names_there (files self.old) }
+        ensures makes { PlainMakes (files self.old) (devices self.old) (Opened number (Fresh false) limit result) (devices self.new) (files self.new) }
         ensures rule { IfErr result HasRule };
 
     /// Closes a file, a broken one too. It takes no memory.
     fn close(&mut self, number: u32) -> Result<(), AdfError>
         requires { is_ready self.old }
         ensures ready { is_ready self.new }
-        ensures told { IsTold (files self.old) (devices self.old) → IsTold (files self.new) (devices self.new) }
-        ensures step { IsTold (files self.old) (devices self.old) → PlainStep (files self.old) (devices self.old) (Closed number result) (devices self.new) (files self.new) }
-        ensures laid_out { IsTold (files self.old) (devices self.old) → AllLaidOut (files self.old) (devices self.old) → AllLaidOut (files self.new) (devices self.new) }
-        ensures counts { NoCountFell (devices self.old) (devices self.new) }
-        ensures names { names_there (files self.new) ≡ names_there (files self.old) }
+        ensures makes { PlainMakes (files self.old) (devices self.old) (Closed number result) (devices self.new) (files self.new) }
         ensures rule { IfErr result HasRule };
 
     /// Answers a query. It changes no tree and writes nothing.
@@ -52,12 +44,7 @@ pub trait FileCalls {
         requires ready { is_ready self.old }
         requires built { IsBuiltQuery query.now }
         ensures ready { is_ready self.new }
-        ensures told { IsTold (files self.old) (devices self.old) → IsTold (files self.new) (devices self.new) }
-        ensures step { IsTold (files self.old) (devices self.old) → PlainStep (files self.old) (devices self.old) (Asked query.now result) (devices self.new) (files self.new) }
-        ensures laid_out { IsTold (files self.old) (devices self.old) → AllLaidOut (files self.old) (devices self.old) → AllLaidOut (files self.new) (devices self.new) }
-        ensures counts { NoCountFell (devices self.old) (devices self.new) }
-        ensures names { names_there (files self.new) ≡ names_there (files self.old) }
-        ensures kind { IfOk result (IsReplyTo query.now) }
+        ensures makes { PlainMakes (files self.old) (devices self.old) (Asked query.now result) (devices self.new) (files self.new) }
         ensures rule { IfErr result HasRule };
 
     /// Does all edits of a group, or none.
@@ -65,10 +52,6 @@ pub trait FileCalls {
         requires ready { is_ready self.old }
         requires built { IsBuiltGroup edits.now }
         ensures ready { is_ready self.new }
-        ensures told { IsTold (files self.old) (devices self.old) → IsTold (files self.new) (devices self.new) }
-        ensures step { IsTold (files self.old) (devices self.old) → PlainStep (files self.old) (devices self.old) (Changed edits.now result) (devices self.new) (files self.new) }
-        ensures laid_out { IsTold (files self.old) (devices self.old) → AllLaidOut (files self.old) (devices self.old) → AllLaidOut (files self.new) (devices self.new) }
-        ensures counts { NoCountFell (devices self.old) (devices self.new) }
-        ensures names { names_there (files self.new) ≡ names_there (files self.old) }
+        ensures makes { PlainMakes (files self.old) (devices self.old) (Changed edits.now result) (devices self.new) (files self.new) }
         ensures rule { IfErr result (λ refusal. HasRule refusal.error) };
 }

@@ -3,11 +3,8 @@
 ghost use Rattle.std.specs.Prelude.{◌≡◌, ◌^◌, ◌≤◌, ◌<◌, ◌+◌, ◌-◌, ◌∷◌, ℕ, List, [], length, OnOk, IfErr, IfOk, IfSome, IsOk, Err, Some};
 ghost use Rattle.std.specs.Io.KnownBytes.{Appends, Consumes, IsAtEnd, prepend_known};
 ghost use Rattle.std.specs.Option.{option_map};
-ghost use Rattle.adf_model.specs.Slots.{IsTold};
-ghost use Rattle.adf_model.specs.Steps.{AllLaidOut, NoCountFell};
 ghost use Rattle.call_script.specs.Replies.{HasSpelling, reply_line};
 ghost use Rattle.cg_io.specs.Cause.{Rose};
-ghost use Rattle.session.specs.Calls.{names_there};
 ghost use Rattle.session.specs.Input.{Uses};
 ghost use Rattle.session.specs.Printed.{AppendsPart};
 ghost use Rattle.session.specs.Turns.{printed_reply};
@@ -48,13 +45,9 @@ pub fn run_session<C: FileCalls, I: Source, O: Sink>(
 ) -> Ended
     requires { C.is_ready calls.old }
     ensures ready { C.is_ready calls.new }
-    ensures told { IsTold (C.files calls.old) (C.devices calls.old) → IsTold (C.files calls.new) (C.devices calls.new) }
-    ensures run { IsTold (C.files calls.old) (C.devices calls.old) → HasRun result
+    ensures run { HasRun result
         (record { files = C.files calls.old; devices = C.devices calls.old; text = I.left input.old; taken = O.taken output.old })
         (record { files = C.files calls.new; devices = C.devices calls.new; text = I.left input.new; taken = O.taken output.new }) }
-    ensures laid_out { IsTold (C.files calls.old) (C.devices calls.old) → AllLaidOut (C.files calls.old) (C.devices calls.old) → AllLaidOut (C.files calls.new) (C.devices calls.new) }
-    ensures counts { NoCountFell (C.devices calls.old) (C.devices calls.new) }
-    ensures names { names_there (C.files calls.new) ≡ names_there (C.files calls.old) }
     ensures bound { (bytes : List ℕ) × Consumes (I.left input.old) (I.left input.new) bytes × IsBounded result (length bytes) }
     ensures end { result ≡ Ended.Done → IsAtEnd (I.left input.new) }
     ensures source { result ≡ Ended.SourceFault → Rose (I.faults input.old) (I.faults input.new) }
@@ -80,16 +73,12 @@ fn go_on<C: FileCalls, I: Source, O: Sink>(
 ) -> Result<(), Ended>
     requires { C.is_ready calls.old }
     ensures ready { C.is_ready calls.new }
-    ensures told { IsTold (C.files calls.old) (C.devices calls.old) → IsTold (C.files calls.new) (C.devices calls.new) }
-    ensures one { IsTold (C.files calls.old) (C.devices calls.old) → OnOk result (HasGoneOn
+    ensures one { OnOk result (HasGoneOn
         (record { files = C.files calls.old; devices = C.devices calls.old; text = prepend_known reader.old.input.pending (I.left input.old); taken = O.taken output.old })
         (record { files = C.files calls.new; devices = C.devices calls.new; text = prepend_known reader.new.input.pending (I.left input.new); taken = O.taken output.new })) }
-    ensures run { IsTold (C.files calls.old) (C.devices calls.old) → IfErr result (λ how. HasRun how
+    ensures run { IfErr result (λ how. HasRun how
         (record { files = C.files calls.old; devices = C.devices calls.old; text = prepend_known reader.old.input.pending (I.left input.old); taken = O.taken output.old })
         (record { files = C.files calls.new; devices = C.devices calls.new; text = I.left input.new; taken = O.taken output.new })) }
-    ensures laid_out { IsTold (C.files calls.old) (C.devices calls.old) → AllLaidOut (C.files calls.old) (C.devices calls.old) → AllLaidOut (C.files calls.new) (C.devices calls.new) }
-    ensures counts { NoCountFell (C.devices calls.old) (C.devices calls.new) }
-    ensures names { names_there (C.files calls.new) ≡ names_there (C.files calls.old) }
     ensures uses { (used : List ℕ) × Uses reader.old.input reader.new.input (I.left input.old) (I.left input.new) used × (IsOk result → 0 < length used) }
     ensures bound { IfErr result (λ how. IsBounded how reader.new.input.taken) }
     ensures limit { reader.new.input.taken ≤ 2 ^ 40 }

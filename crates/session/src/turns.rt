@@ -2,11 +2,9 @@
 
 ghost use Rattle.std.specs.Prelude.{◌≡◌, ◌^◌, ◌≤◌, length, IfErr, IfSome, OnOk, Some, None};
 ghost use Rattle.std.specs.Option.{option_map};
-ghost use Rattle.adf_model.specs.Slots.{IsTold};
 ghost use Rattle.adf_model.specs.Steps as steps;
-ghost use Rattle.adf_model.specs.Steps.{AllLaidOut, NoCountFell};
 ghost use Rattle.call_script.specs.Replies.{HasSpelling, reply_line};
-ghost use Rattle.session.specs.Calls.{PlainStep, names_there};
+ghost use Rattle.session.specs.Calls.{PlainMakes};
 ghost use Rattle.session.specs.Turns.{IsBuilt, call_made, is_skipped, Says};
 
 use crate::calls::FileCalls;
@@ -20,11 +18,7 @@ pub(crate) fn take_turn<C: FileCalls>(alloc: Global, calls: &mut C, line: &[u8])
     requires ready { C.is_ready calls.old }
     requires short { length line.now ≤ 2 ^ 20 }
     ensures ready { C.is_ready calls.new }
-    ensures told { IsTold (C.files calls.old) (C.devices calls.old) → IsTold (C.files calls.new) (C.devices calls.new) }
-    ensures turn { IsTold (C.files calls.old) (C.devices calls.old) → (made : steps.Call) × Says line.now made (option_map reply_line result) × PlainStep (C.files calls.old) (C.devices calls.old) made (C.devices calls.new) (C.files calls.new) }
-    ensures laid_out { IsTold (C.files calls.old) (C.devices calls.old) → AllLaidOut (C.files calls.old) (C.devices calls.old) → AllLaidOut (C.files calls.new) (C.devices calls.new) }
-    ensures counts { NoCountFell (C.devices calls.old) (C.devices calls.new) }
-    ensures names { names_there (C.files calls.new) ≡ names_there (C.files calls.old) }
+    ensures turn { (made : steps.Call) × Says line.now made (option_map reply_line result) × PlainMakes (C.files calls.old) (C.devices calls.old) made (C.devices calls.new) (C.files calls.new) }
     ensures spelling { IfSome result HasSpelling }
 {
     if skips(line) {
@@ -51,11 +45,7 @@ fn answer_to<C: FileCalls>(calls: &mut C, call: &Call) -> Answer
     requires ready { C.is_ready calls.old }
     requires built { IsBuilt call.now }
     ensures ready { C.is_ready calls.new }
-    ensures told { IsTold (C.files calls.old) (C.devices calls.old) → IsTold (C.files calls.new) (C.devices calls.new) }
-    ensures step { IsTold (C.files calls.old) (C.devices calls.old) → (made : steps.Call) × (call_made call.now result ≡ Some made) × PlainStep (C.files calls.old) (C.devices calls.old) made (C.devices calls.new) (C.files calls.new) }
-    ensures laid_out { IsTold (C.files calls.old) (C.devices calls.old) → AllLaidOut (C.files calls.old) (C.devices calls.old) → AllLaidOut (C.files calls.new) (C.devices calls.new) }
-    ensures counts { NoCountFell (C.devices calls.old) (C.devices calls.new) }
-    ensures names { names_there (C.files calls.new) ≡ names_there (C.files calls.old) }
+    ensures step { (made : steps.Call) × (call_made call.now result ≡ Some made) × PlainMakes (C.files calls.old) (C.devices calls.old) made (C.devices calls.new) (C.files calls.new) }
     ensures spelling { HasSpelling result }
 {
     match call {

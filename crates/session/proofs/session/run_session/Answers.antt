@@ -1,9 +1,9 @@
-use Rattle.std.proofs.Common.{◌++◌, ◌∙◌, arith}
-use Rattle.session.proofs.Running.{then_on, then_ends, uses_then, all_taken, none_fell_on}
+use Rattle.std.proofs.Common.{◌++◌, arith}
+use Rattle.session.proofs.Running.{then_on, then_ends, uses_then, all_taken}
 use Rattle.session.proofs.session.run_session.Goals as goal
 
 pub returns-in-Err-clause-run : goal.returns-in-Err-clause-run
-returns-in-Err-clause-run g c told = then_ends _ _ _ _ (c.turns.invariant.turns told) (c.in-Err.ensures.run (c.turns.invariant.told told))
+returns-in-Err-clause-run g c = then_ends _ _ _ _ c.turns.invariant.turns c.in-Err.ensures.run
 
 pub returns-in-Err-clause-bound : goal.returns-in-Err-clause-bound
 returns-in-Err-clause-bound g c =
@@ -16,11 +16,7 @@ turns-preserved g c =
     let now = c.in_default.ensures in
     record {
       ready = now.ready;
-      told = λ told. now.told (c.turns.invariant.told told);
-      turns = λ told. then_on _ _ _ (c.turns.invariant.turns told) (now.one (c.turns.invariant.told told));
-      laid_out = λ told laid. now.laid_out (c.turns.invariant.told told) (c.turns.invariant.laid_out told laid);
-      counts = none_fell_on _ _ _ c.turns.invariant.counts now.counts;
-      names = now.names ∙ c.turns.invariant.names;
+      turns = then_on _ _ _ c.turns.invariant.turns now.one;
       uses = (c.turns.invariant.uses.0 ++ now.uses.0, uses_then _ _ _ _ _ _ _ _ c.turns.invariant.uses.1 now.uses.1);
       source_later = omega (arith, c.turns.invariant.source_later, now.source_later);
       sink_later = omega (arith, c.turns.invariant.sink_later, now.sink_later);

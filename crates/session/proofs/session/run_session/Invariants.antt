@@ -1,8 +1,5 @@
 use Rattle.std.proofs.Common.{◌≡◌, ◌≤◌, ◌+◌, ◌-◌, ◌^◌, ℕ, List, [], length}
 use Rattle.std.specs.Io.KnownBytes.{prepend_known}
-use Rattle.adf_model.specs.Slots.{IsTold}
-use Rattle.adf_model.specs.Steps.{AllLaidOut, NoCountFell}
-use Rattle.session.specs.Calls.{names_there}
 use Rattle.session.specs.Input.{Uses}
 use Rattle.session.specs.Session.{HasGoneOn}
 use Rattle.session.proofs.session.run_session.Given as goal
@@ -11,13 +8,9 @@ use Rattle.session.proofs.session.run_session.Given as goal
 abbrev pub invariant-turns : goal.invariant-turns
 invariant-turns g l = record {
   ready : g.C.FileCalls.is_ready l.calls;
-  told : IsTold (g.C.FileCalls.files l.fn.calls) (g.C.FileCalls.devices l.fn.calls) → IsTold (g.C.FileCalls.files l.calls) (g.C.FileCalls.devices l.calls);
-  turns : IsTold (g.C.FileCalls.files l.fn.calls) (g.C.FileCalls.devices l.fn.calls) → HasGoneOn
+  turns : HasGoneOn
       (record { files = g.C.FileCalls.files l.fn.calls; devices = g.C.FileCalls.devices l.fn.calls; text = g.I.Source.left l.fn.input; taken = g.O.Sink.taken l.fn.output })
       (record { files = g.C.FileCalls.files l.calls; devices = g.C.FileCalls.devices l.calls; text = prepend_known l.reader.input.pending (g.I.Source.left l.input); taken = g.O.Sink.taken l.output });
-  laid_out : IsTold (g.C.FileCalls.files l.fn.calls) (g.C.FileCalls.devices l.fn.calls) → AllLaidOut (g.C.FileCalls.files l.fn.calls) (g.C.FileCalls.devices l.fn.calls) → AllLaidOut (g.C.FileCalls.files l.calls) (g.C.FileCalls.devices l.calls);
-  counts : NoCountFell (g.C.FileCalls.devices l.fn.calls) (g.C.FileCalls.devices l.calls);
-  names : names_there (g.C.FileCalls.files l.calls) ≡ names_there (g.C.FileCalls.files l.fn.calls);
   uses : (used : List ℕ) × Uses (record { pending = []; taken = 0 }) l.reader.input (g.I.Source.left l.fn.input) (g.I.Source.left l.input) used;
   source_later : g.I.Source.faults l.fn.input ≤ g.I.Source.faults l.input;
   sink_later : g.O.Sink.faults l.fn.output ≤ g.O.Sink.faults l.output;

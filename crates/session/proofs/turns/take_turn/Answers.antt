@@ -3,10 +3,10 @@ use Rattle.session.proofs.Said.{skipped, answered, refused}
 use Rattle.session.proofs.turns.take_turn.Goals as goal
 
 pub returns-then-skips-clause-turn : goal.returns-then-skips-clause-turn
-returns-then-skips-clause-turn g c told = skipped _ _ _ c.requires.short (sym c.skips.ensures ∙ c.if-skips.true)
+returns-then-skips-clause-turn g c = skipped _ _ _ c.requires.short (sym c.skips.ensures ∙ c.if-skips.true)
 
 pub returns-in-Ok-clause-turn : goal.returns-in-Ok-clause-turn
-returns-in-Ok-clause-turn g c told = answered _ _ _ _ _ _ _ c.requires.short (sym c.skips.ensures ∙ c.if-skips.false) c.in-Ok.ensures.found (c.answer_to.ensures.step told)
+returns-in-Ok-clause-turn g c = answered _ _ _ _ _ _ _ c.requires.short (sym c.skips.ensures ∙ c.if-skips.false) c.in-Ok.ensures.found c.answer_to.ensures.step
 
 pub returns-in-Err-clause-turn : goal.returns-in-Err-clause-turn
-returns-in-Err-clause-turn g c told = refused _ _ _ _ c.requires.short (sym c.skips.ensures ∙ c.if-skips.false) c.in-Err.ensures.why (λ is. c.in-Err.ensures.none (ap Err is))
+returns-in-Err-clause-turn g c = refused _ _ _ _ c.requires.short (sym c.skips.ensures ∙ c.if-skips.false) c.in-Err.ensures.why (λ is. c.in-Err.ensures.none (ap Err is))
