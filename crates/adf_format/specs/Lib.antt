@@ -19,5 +19,6 @@ pub mod Fresh
 pub mod Spelled
 pub mod Verdict
 pub mod Changes
+pub mod HeapBytes
 pub mod Cache
 pub mod Case

@@ -26,14 +26,14 @@ use Rattle.adf_model.proofs.PartsApart.{range_in, own_list, may_change, others_a
 
 -- ---- extents of parts
 
-none_in : {A : Type 0} (a : A) → Contains [] a → ⊥
+pub none_in : {A : Type 0} (a : A) → Contains [] a → ⊥
 none_in a h = none h.0 h.1
   where
     none : (k : ℕ) → k < 0 → ⊥
     none k lt = omega (arith, lt)
 
 -- an extent of the parts is one of some node's
-node_of : (wide : Bool) (xs : List (Option NodeParts)) (e : Extent) → Contains (flat_map (extents_of wide) xs) e → (k : ℕ) × (ms : NodeParts) × (get_or xs k None ≡ Some ms) × Contains (node_extents wide ms) e
+pub node_of : (wide : Bool) (xs : List (Option NodeParts)) (e : Extent) → Contains (flat_map (extents_of wide) xs) e → (k : ℕ) × (ms : NodeParts) × (get_or xs k None ≡ Some ms) × Contains (node_extents wide ms) e
 node_of wide [] e h = absurd (none_in e h)
 node_of wide (x ∷ xs) e h = by_first x (Contains-append_cases (extents_of wide x) (flat_map (extents_of wide) xs) e h) (node_of wide xs e)
   where
@@ -45,7 +45,7 @@ node_of wide (x ∷ xs) e h = by_first x (Contains-append_cases (extents_of wide
     by_first x (inr c) later = let r = later c in (suc r.0, r.1, r.2, r.3)
 
 -- and an extent of a node is one of the parts
-of_node : (wide : Bool) (xs : List (Option NodeParts)) (k : ℕ) (ms : NodeParts) (e : Extent) → get_or xs k None ≡ Some ms → Contains (node_extents wide ms) e → Contains (flat_map (extents_of wide) xs) e
+pub of_node : (wide : Bool) (xs : List (Option NodeParts)) (k : ℕ) (ms : NodeParts) (e : Extent) → get_or xs k None ≡ Some ms → Contains (node_extents wide ms) e → Contains (flat_map (extents_of wide) xs) e
 of_node wide [] k ms e at c = absurd (not_there ms at)
 of_node wide (x ∷ xs) zero ms e at c = Contains-append_left (extents_of wide x) (flat_map (extents_of wide) xs) e (subst (λ (o : Option NodeParts). Contains (extents_of wide o) e) (sym at) c)
 of_node wide (x ∷ xs) (suc k) ms e at c = Contains-append_right (extents_of wide x) (flat_map (extents_of wide) xs) e (of_node wide xs k ms e at c)

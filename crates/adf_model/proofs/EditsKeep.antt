@@ -41,7 +41,7 @@ none_some : {P : Type 0} (node : NodeId) → ◌≡◌ {A = Option NodeId} None 
 none_some node e = cc
 
 -- an edit whose nodes are live has a live node where links are followed
-followed_live : (tree : Tree) (edit : Edit) → list_any (λ (node : NodeId). not (is_live tree node.serial)) (named_nodes edit) ≡ false → (node : NodeId) → followed edit ≡ Some node → IsSome (node_at tree node.serial)
+pub followed_live : (tree : Tree) (edit : Edit) → list_any (λ (node : NodeId). not (is_live tree node.serial)) (named_nodes edit) ≡ false → (node : NodeId) → followed edit ≡ Some node → IsSome (node_at tree node.serial)
 followed_live tree (Create at wanted label) e node f = at_followed tree at node f (first_live _ _ e)
 followed_live tree (Delete at) e node f = none_some node f
 followed_live tree (Rename at wanted) e node f = none_some node f

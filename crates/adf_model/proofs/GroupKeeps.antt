@@ -112,7 +112,7 @@ resolve_reaches files trees edit reached live e = by_followed (followed edit) re
         subst (λ (d : Edit). Reached files (followed d)) (same_Ok there.2) (subst (Reached files) (sym (followed_now edit node there.0 f)) now)
 
 -- the followed node of an edit in one file is in that file
-followed_in : (edit : Edit) (number : ℕ) → list_any (λ (node : NodeId). not (node.file == number)) (named_nodes edit) ≡ false → (node : NodeId) → followed edit ≡ Some node → node.file ≡ number
+pub followed_in : (edit : Edit) (number : ℕ) → list_any (λ (node : NodeId). not (node.file == number)) (named_nodes edit) ≡ false → (node : NodeId) → followed edit ≡ Some node → node.file ≡ number
 followed_in edit number e node f = by_edit edit e f
   where
     first : (n : NodeId) (b : Bool) → (not (n.file == number) || b) ≡ false → n.file ≡ number

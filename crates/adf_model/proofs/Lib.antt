@@ -54,6 +54,7 @@ pub mod CreatedChild
 pub mod CreateTest
 pub mod StandingLaws
 pub mod UntouchedData
+pub mod DataRoom
 pub mod UntouchedParts
 pub mod GroupStands
 pub mod TornTail

@@ -1,11 +1,15 @@
 -- The data of one node by themselves: what a change of their size, and their release, do to the chunks and the heap.
-use Rattle.std.specs.Prelude.{◌≡◌, ℕ, List, [], ◌∷◌, ◌++◌, Option, Some, None, Result, Ok}
+use Rattle.std.specs.Prelude.{◌≡◌, ℕ, ◌+◌, ◌-◌, List, [], ◌∷◌, ◌++◌, Option, Some, None, Result, Ok}
 use Rattle.std.specs.List.{AllByRecursion}
+use Rattle.adf_format.specs.declared.types.Extent.{Extent}
+use Rattle.adf_format.specs.declared.types.ExtentKind.{ExtentKind}
 use Rattle.adf_format.specs.Fields.{field}
 use Rattle.adf_format.specs.Parts.{SpellsChunk}
-use Rattle.adf_format.specs.Placement.{Placement, NodeParts, ChunkPart, Heap}
+use Rattle.adf_format.specs.Tiles.{cover}
+use Rattle.adf_format.specs.Placement.{Placement, NodeParts, ChunkPart, Heap, extent}
 use Rattle.adf_format.specs.LaysOut.{HasChunkTable, HasData, ThreadsFreeChunks}
 use Rattle.adf_format.specs.Changes.{KeepsBut, heap_fields}
+use Rattle.adf_format.specs.HeapBytes.{KeepsFillers, MovesEnd}
 use Rattle.adf_format.specs.HeapRule.{LimitReached, parts_at, with_parts, data_extents, hold, release, ◌>>=◌}
 use Rattle.adf_model.specs.Edits.{resized}
 
@@ -49,15 +53,29 @@ pub record HoldsData (image : List ℕ) (parts : NodeParts) (bytes : Option (Lis
 abbrev pub KeepsOthers : DataSpot → List ℕ → List ℕ → Type 0
 KeepsOthers spot old new = KeepsBut (heap_fields ++ spot.1.gaps ++ data_extents spot.0) spot.1.end old new
 
+-- the bytes by which the end grew
+abbrev pub grown_range : Heap → Heap → Extent
+grown_range before after = extent ExtentKind.Filler (before.end + 1) (after.end - before.end)
+
+-- chunks, chunk table and gaps are together the bytes of those before, and those by which the end grew
+abbrev pub SharesRoom : DataSpot → DataSpot → Type 0
+SharesRoom spot after =
+    (b : ℕ) → cover (data_extents after.0 ++ after.1.gaps) b
+    ≡ cover (data_extents spot.0 ++ spot.1.gaps) b + cover (grown_range spot.1 after.1 ∷ []) b
+
 -- the data of a node got a size: the first bytes stay, zeros follow, and nothing else changes
 pub record IsResized (limit size : ℕ) (bytes : Option (List ℕ)) (spot after : DataSpot) (old new : List ℕ) : Type 0 where
   pub placed : resized_spot limit size spot ≡ Ok after
   pub holds : HoldsData new after.0 (Some (resized_from bytes size))
   pub others : KeepsOthers spot old new
   pub threads : ThreadsFreeChunks new after.1.gaps
+  pub end : MovesEnd spot.1.end after.1.end old new
+  pub fillers : KeepsFillers spot.1.gaps after.1.gaps old new
 
 -- the data of a node became none, and nothing else changes
 pub record IsReleased (spot after : DataSpot) (old new : List ℕ) : Type 0 where
   pub placed : after ≡ released_spot spot
   pub others : KeepsOthers spot old new
   pub threads : ThreadsFreeChunks new after.1.gaps
+  pub end : MovesEnd spot.1.end after.1.end old new
+  pub fillers : KeepsFillers spot.1.gaps after.1.gaps old new

@@ -14,6 +14,7 @@ use Rattle.adf_format.specs.RecordFields.{field_in}
 use Rattle.adf_format.specs.Pointer.{PointsTo}
 use Rattle.file_heap.specs.Links.{AreApart}
 use Rattle.adf_format.specs.HeapRule.{heap_take, give_alone}
+pub use Rattle.adf_format.specs.HeapBytes.{HoldsFillers, KeepsFillers, MovesEnd}
 use Rattle.adf_model.specs.declared.error.AdfError.{AdfError}
 use Rattle.adf_model.specs.declared.error.AdfError.TheVariants as error
 
@@ -85,18 +86,6 @@ IsTakeRefusal unread before now other = IsRefusal unread before now other
 pub record ChangesOnly (ranges : List Extent) (old new : List ℕ) : Type 0 where
   pub longer : length old ≤ length new
   pub others : (b : ℕ) → cover ranges b ≡ 0 → get_or new b 0 ≡ get_or old b 0
-
--- each byte of a filler is `z`
-abbrev pub HoldsFillers : List ℕ → List Extent → Type 0
-HoldsFillers bytes gaps = (b : ℕ) → 0 < cover (filter is_filler gaps) b → get_or bytes b 0 ≡ 122
-
--- where the fillers among some gaps hold `z` alone, those among the others do so afterwards
-abbrev pub KeepsFillers : List Extent → List Extent → List ℕ → List ℕ → Type 0
-KeepsFillers gaps after old new = HoldsFillers old gaps → HoldsFillers new after
-
--- where the end pointer names the one end, it names the other afterwards
-abbrev pub MovesEnd : ℕ → ℕ → List ℕ → List ℕ → Type 0
-MovesEnd end after old new = PointsTo (field_in old HEADER_END) end → PointsTo (field_in new HEADER_END) after
 
 -- the lists thread the free chunks among gaps as before
 abbrev pub KeepsThreads : List ℕ → List ℕ → Type 0

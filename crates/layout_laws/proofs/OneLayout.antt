@@ -65,7 +65,7 @@ module _ (image : List ℕ) (tree : Tree) (p : Placement) (l : LaysOut image tre
 
   -- ---- one node
 
-  data_again : (node : Node) (parts : NodeParts) → HoldsNode image tree p node parts → IsNode tree.wide node
+  pub data_again : (node : Node) (parts : NodeParts) → HoldsNode image tree p node parts → IsNode tree.wide node
       → data_at parts.header ≡ node.bytes
   data_again node parts h is = by_bytes node.bytes refl
     where
