@@ -6,7 +6,6 @@ pub mod NewNode
 pub mod NodeJoined
 pub mod NodeWithTable
 pub mod EntryJoined
-pub mod TableJoined
 pub mod LinkFull
 pub mod EditsPlaced
 pub mod Plans

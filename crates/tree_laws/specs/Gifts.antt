@@ -14,7 +14,8 @@ use Rattle.adf_format.specs.HeapRule.{Placed, heap_give, after_gives, place_edit
 use Rattle.adf_model.specs.declared.tree.Edit.{Edit}
 use Rattle.adf_model.specs.declared.tree.NodeId.{NodeId}
 use Rattle.adf_model.specs.Edits.{apply}
-use Rattle.tree_laws.specs.Holding.{Holds, ChangesIn, HoldsZ}
+use Rattle.adf_format.specs.HeapBytes.{MovesEnd, KeepsFillers}
+use Rattle.tree_laws.specs.Holding.{Holds, ChangesIn}
 use Rattle.tree_laws.specs.Tables.{ClosesUp}
 use Rattle.tree_laws.specs.Plans.{plan_deleted}
 
@@ -22,8 +23,8 @@ use Rattle.tree_laws.specs.Plans.{plan_deleted}
 -- end, and leaves fillers of `z` and threaded chunks.
 pub record Gives (e : Extent) (heap : Heap) (old new : List ℕ) : Type 0 where
   pub changes : ChangesIn (heap_fields ++ e ∷ heap.gaps) old new
-  pub end : PointsTo (field_in old HEADER_END) heap.end → PointsTo (field_in new HEADER_END) heap.end
-  pub fillers : HoldsZ old heap.gaps → HoldsZ new (heap_give e.place e.length heap).gaps
+  pub end : MovesEnd heap.end heap.end old new
+  pub fillers : KeepsFillers heap.gaps (heap_give e.place e.length heap).gaps old new
   pub threads : ThreadsFreeChunks new (heap_give e.place e.length heap).gaps
 
 -- ranges are given one after another, in their order

@@ -9,6 +9,7 @@ use Rattle.adf_format.specs.Parts.{SpellsHeader, IsFiller}
 use Rattle.adf_format.specs.Placement.{Placement, NodeParts, parts_of, node_extents, live_extents, head_extents, all_extents}
 use Rattle.adf_format.specs.LaysOut.{HoldsNode, AreGapsInOrder, ThreadsFreeChunks}
 use Rattle.adf_format.specs.Changes.{SameChildren}
+use Rattle.adf_format.specs.HeapBytes.{HoldsFillers}
 use Rattle.adf_format.specs.declared.fields.TheConstants.{HEADER_END}
 use Rattle.adf_format.specs.RecordFields.{field_in}
 use Rattle.adf_format.specs.Pointer.{PointsTo}
@@ -38,10 +39,6 @@ pub record ChangesIn (ranges : List Extent) (old new : List ℕ) : Type 0 where
 abbrev pub MeetsNothing : List Extent → List Extent → Type 0
 MeetsNothing ranges xs = (b : ℕ) → 0 < cover xs b → cover ranges b ≡ 0
 
--- each byte of the fillers among some gaps is `z`
-abbrev pub HoldsZ : List ℕ → List Extent → Type 0
-HoldsZ image gaps = (b : ℕ) → 0 < cover (filter is_filler gaps) b → slice_get image b ≡ Some 122
-
 -- The heap alone moves: ranges are taken or given, and what is written lies in its own fields, in the gaps and in
 -- the ranges taken.
 pub record MovesHeap (ranges : List Extent) (tree : Tree) (p q : Placement) (kept : List Extent)
@@ -53,7 +50,7 @@ pub record MovesHeap (ranges : List Extent) (tree : Tree) (p q : Placement) (kep
   pub end : PointsTo (field_in new HEADER_END) q.heap.end
   pub tiles : Tiles (kept ++ all_extents tree.wide q) q.heap.end
   pub gaps : AreGapsInOrder q.heap.gaps
-  pub fillers : HoldsZ new q.heap.gaps
+  pub fillers : HoldsFillers new q.heap.gaps
   pub threads : ThreadsFreeChunks new q.heap.gaps
 
 -- The tree and its parts change in the nodes of some serials, whose new bytes stand; the heap stays, and no byte

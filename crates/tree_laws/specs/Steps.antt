@@ -11,7 +11,8 @@ use Rattle.adf_format.specs.Tree.{Tree}
 use Rattle.adf_format.specs.Tiles.{Tiles, cover}
 use Rattle.adf_format.specs.Placement.{Placement, Heap, extent}
 use Rattle.adf_format.specs.LaysOut.{LaysOut, AreGapsInOrder, ThreadsFreeChunks}
-use Rattle.tree_laws.specs.Holding.{Holds, Rebuilds, MovesHeap, ChangesIn, HoldsZ}
+use Rattle.adf_format.specs.HeapBytes.{MovesEnd, KeepsFillers}
+use Rattle.tree_laws.specs.Holding.{Holds, Rebuilds, MovesHeap, ChangesIn}
 use Rattle.tree_laws.specs.Leaving.{Leaves, Spares}
 
 -- a layout is a file in which nothing is taken
@@ -44,8 +45,8 @@ HeapTakes =
     → ((used : List Extent) → Tiles (used ++ p.heap.gaps) p.heap.end
     → Tiles (extent kind place n ∷ used ++ heap.gaps) heap.end)
     → AreGapsInOrder heap.gaps
-    → (PointsTo (field_in old HEADER_END) p.heap.end → PointsTo (field_in new HEADER_END) heap.end)
-    → (HoldsZ old p.heap.gaps → HoldsZ new heap.gaps) → ThreadsFreeChunks new heap.gaps
+    → MovesEnd p.heap.end heap.end old new
+    → KeepsFillers p.heap.gaps heap.gaps old new → ThreadsFreeChunks new heap.gaps
     → Holds new tree (record p { heap = heap }) (extent kind place n ∷ taken)
 
 -- and one that it is given is none's
@@ -58,8 +59,8 @@ HeapGives =
     → ((used : List Extent) → Tiles (extent kind place n ∷ used ++ p.heap.gaps) p.heap.end
     → Tiles (used ++ heap.gaps) heap.end)
     → AreGapsInOrder heap.gaps
-    → (PointsTo (field_in old HEADER_END) p.heap.end → PointsTo (field_in new HEADER_END) heap.end)
-    → (HoldsZ old p.heap.gaps → HoldsZ new heap.gaps) → ThreadsFreeChunks new heap.gaps
+    → MovesEnd p.heap.end heap.end old new
+    → KeepsFillers p.heap.gaps heap.gaps old new → ThreadsFreeChunks new heap.gaps
     → Holds new tree (record p { heap = heap }) taken
 
 -- what is written into ranges that are taken changes nothing of what the file holds

@@ -15,7 +15,8 @@ use Rattle.adf_model.specs.declared.tree.Edit.{Edit}
 use Rattle.adf_model.specs.Edits.{file_step}
 use Rattle.adf_model.specs.Placing.{placed_as}
 use Rattle.adf_model.specs.Untouched.{touched_extents, group_shaped}
-use Rattle.tree_laws.specs.Holding.{Holds, Rebuilds, ChangesIn, HoldsZ}
+use Rattle.adf_format.specs.HeapBytes.{MovesEnd, KeepsFillers}
+use Rattle.tree_laws.specs.Holding.{Holds, Rebuilds, ChangesIn}
 use Rattle.tree_laws.specs.Leaving.{Leaves, Spares}
 use Rattle.tree_laws.specs.Tails.{KeepsTail}
 use Rattle.tree_laws.specs.GroupLoop.{IsEditDone}
@@ -41,8 +42,8 @@ EditTakes =
     → IsUnderWay except shaped tree p old now q taken b → ChangesIn (heap_fields ++ q.heap.gaps) b c
     → ((used : List Extent) → Tiles (used ++ q.heap.gaps) q.heap.end → Tiles (extent kind place n ∷ used ++ heap.gaps) heap.end)
     → AreGapsInOrder heap.gaps
-    → (PointsTo (field_in b HEADER_END) q.heap.end → PointsTo (field_in c HEADER_END) heap.end)
-    → (HoldsZ b q.heap.gaps → HoldsZ c heap.gaps) → ThreadsFreeChunks c heap.gaps → q.heap.end ≤ heap.end
+    → MovesEnd q.heap.end heap.end b c
+    → KeepsFillers q.heap.gaps heap.gaps b c → ThreadsFreeChunks c heap.gaps → q.heap.end ≤ heap.end
     → IsUnderWay except shaped tree p old now (record q { heap = heap }) (extent kind place n ∷ taken) c
 
 -- and is given one that was taken
@@ -55,8 +56,8 @@ EditGives =
     → ChangesIn (heap_fields ++ extent other place n ∷ q.heap.gaps) b c
     → ((used : List Extent) → Tiles (extent kind place n ∷ used ++ q.heap.gaps) q.heap.end → Tiles (used ++ heap.gaps) heap.end)
     → AreGapsInOrder heap.gaps
-    → (PointsTo (field_in b HEADER_END) q.heap.end → PointsTo (field_in c HEADER_END) heap.end)
-    → (HoldsZ b q.heap.gaps → HoldsZ c heap.gaps) → ThreadsFreeChunks c heap.gaps → q.heap.end ≤ heap.end
+    → MovesEnd q.heap.end heap.end b c
+    → KeepsFillers q.heap.gaps heap.gaps b c → ThreadsFreeChunks c heap.gaps → q.heap.end ≤ heap.end
     → IsUnderWay except shaped tree p old now (record q { heap = heap }) taken c
 
 -- a text is written into ranges that were taken

@@ -27,7 +27,7 @@ use Rattle.tree_laws.specs.Holding.{Holds, ChangesIn}
 use Rattle.tree_laws.specs.DataSwitch.{Switches, with_data, AreSpelled, shape_text, chunks_text, ShapeIsSet, DataIsReplaced, DataIsOverwritten}
 use Rattle.tree_laws.proofs.Holding.Steps.{within, keeps_but, once}
 use Rattle.tree_laws.proofs.Edits.LabelSet.{written_in}
-use Rattle.tree_laws.proofs.Edits.EntryJoined.{two_written}
+use Rattle.tree_laws.proofs.Holding.OwnRanges.{two_written}
 use Rattle.tree_laws.proofs.Tables.TableReplaced.{few_dims}
 use Rattle.tree_laws.proofs.Data.DataSwitched.{data_switches, data_reach, own_parts}
 use Rattle.tree_laws.proofs.Data.DataFields.{shape_written, chunks_written, shape_long, chunks_long}

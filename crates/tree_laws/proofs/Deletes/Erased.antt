@@ -19,7 +19,7 @@ use Rattle.tree_laws.specs.Holding.{Holds}
 use Rattle.tree_laws.specs.Erasing.{EditErases}
 use Rattle.tree_laws.proofs.Holding.Steps.{within}
 use Rattle.tree_laws.proofs.Leaving.LeavingLaws.{of_node, contains_cover}
-use Rattle.tree_laws.proofs.Edits.EntryJoined.{two_written}
+use Rattle.tree_laws.proofs.Holding.OwnRanges.{two_written}
 use Rattle.tree_laws.proofs.Deletes.NodesLeft.{nodes_left}
 use Rattle.tree_laws.proofs.Leaving.PartsKept.{erased_parts, more_part}
 use Rattle.tree_laws.proofs.Leaving.WritesLeft.{header_in, table_in, both_in}

@@ -31,7 +31,7 @@ use Rattle.adf_model.proofs.PartsApart.{range_in, range_within, all_apart, cover
 use Rattle.tree_laws.specs.Holding.{Holds, ChangesIn, MeetsNothing}
 use Rattle.tree_laws.proofs.Holding.Steps.{within, keeps_but, once, rebuilt}
 use Rattle.tree_laws.proofs.Edits.LabelSet.{set_here, set_there}
-use Rattle.tree_laws.proofs.Edits.EntryJoined.{out, two_written}
+use Rattle.tree_laws.proofs.Holding.OwnRanges.{out, two_written}
 
 least : (wide : Bool) → 246 ≤ node_length wide
 least false = omega arith

@@ -19,7 +19,7 @@ use Rattle.adf_model.proofs.CreatedParts.{padded_long}
 use Rattle.tree_laws.specs.Parting.{InParts}
 use Rattle.tree_laws.specs.MoreSwitches.{EditLabels, EditReplaces, EditJoinsTable}
 use Rattle.tree_laws.proofs.Edits.LabelSet.{written_in, label_set}
-use Rattle.tree_laws.proofs.Edits.TableJoined.{tables_join}
+use Rattle.tree_laws.proofs.Edits.EntryJoined.{tables_join}
 use Rattle.tree_laws.proofs.Tables.TableReplaced.{table_is_replaced}
 use Rattle.tree_laws.proofs.Leaving.PartsKept.{same_parts, new_parts, table_parts, parts_go_on, more_part}
 use Rattle.tree_laws.proofs.Leaving.WritesLeft.{header_in}

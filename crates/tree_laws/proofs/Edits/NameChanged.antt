@@ -33,7 +33,7 @@ use Rattle.tree_laws.proofs.Holding.Steps.{within, keeps_but, once, rebuilt}
 use Rattle.tree_laws.proofs.Holding.NodeFields.{name_written}
 use Rattle.tree_laws.proofs.Holding.NodeKept.{header_changed}
 use Rattle.tree_laws.proofs.Edits.LabelSet.{set_here, set_there}
-use Rattle.tree_laws.proofs.Edits.EntryJoined.{out, two_written}
+use Rattle.tree_laws.proofs.Holding.OwnRanges.{out, two_written}
 
 least : (wide : Bool) → 246 ≤ node_length wide
 least false = omega arith

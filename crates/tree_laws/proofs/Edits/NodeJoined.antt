@@ -33,7 +33,7 @@ use Rattle.adf_model.proofs.PartsApart.{range_in, range_within, all_apart, cover
 use Rattle.tree_laws.specs.Holding.{Holds, ChangesIn, MeetsNothing}
 use Rattle.tree_laws.specs.NodeJoin.{NodeJoins, with_parts_of_new}
 use Rattle.tree_laws.proofs.Holding.Steps.{within, keeps_but, once, rebuilt}
-use Rattle.tree_laws.proofs.Edits.EntryJoined.{out, two_written}
+use Rattle.tree_laws.proofs.Holding.OwnRanges.{out, two_written}
 use Rattle.tree_laws.proofs.Tables.TableReplaced.{few_dims}
 use Rattle.tree_laws.proofs.Edits.NewNode.{node_reach, node_stays}
 

@@ -25,7 +25,8 @@ use Rattle.tree_laws.proofs.Leaving.LeavingLaws.{contains_cover, steps_leave, le
 use Rattle.tree_laws.proofs.Leaving.TailsKept.{tails_go_on, written_tail}
 use Rattle.tree_laws.proofs.Leaving.PartsKept.{same_parts, new_parts, more_part}
 use Rattle.tree_laws.proofs.Leaving.WritesLeft.{writes_leave, header_in, table_in, both_in}
-use Rattle.tree_laws.proofs.Edits.EntryJoined.{two_written, entry_joins}
+use Rattle.tree_laws.proofs.Holding.OwnRanges.{two_written}
+use Rattle.tree_laws.proofs.Edits.EntryJoined.{entry_joins}
 use Rattle.tree_laws.proofs.Edits.NameChanged.{name_changed}
 
 none_in : {A : Type 0} (a : A) → Contains [] a → ⊥

@@ -1,5 +1,5 @@
 -- What a take and a gift of the heap make of a file in the midst of an edit.
-use Rattle.std.proofs.Common.{◌≡◌, inl, ℕ, zero, suc, refl, sym, ◌∙◌, ap, arith, List, [], ◌∷◌, ◌++◌, length, filter, ◌+◌, ◌-◌, ◌<◌, ◌≤◌, Bool, true, false, cond}
+use Rattle.std.proofs.Common.{◌≡◌, inl, ℕ, zero, suc, refl, sym, ◌∙◌, ap, arith, List, [], ◌∷◌, ◌++◌, length, get_or, filter, ◌+◌, ◌-◌, ◌<◌, ◌≤◌, Bool, true, false, cond}
 use Rattle.std.proofs.lemmas.Bool.Decides.{nat_tests}
 use Rattle.std.specs.Prelude.{Some, slice_get, IsTrue}
 use Rattle.adf_format.specs.declared.types.Extent.{Extent}
@@ -20,7 +20,9 @@ use Rattle.adf_format.proofs.FieldLaws.{get_field, length-field}
 use Rattle.adf_format.proofs.FrameLaws.{field_of_first}
 use Rattle.adf_model.proofs.PartsApart.{range_in, range_out, range_within, cover_all}
 use Rattle.adf_model.proofs.FilledGaps.{get_replicate}
-use Rattle.tree_laws.specs.Holding.{Holds, ChangesIn, HoldsZ}
+use Rattle.adf_model.proofs.Basics.{not_there, same_Some}
+use Rattle.adf_format.specs.HeapBytes.{HoldsFillers, MovesEnd, KeepsFillers}
+use Rattle.tree_laws.specs.Holding.{Holds, ChangesIn}
 use Rattle.tree_laws.proofs.Holding.Steps.{within, once}
 use Rattle.tree_laws.proofs.Holding.HeapMoves.{moved}
 
@@ -28,6 +30,12 @@ z_at : (n place b : ℕ) (image : List ℕ) → IsFiller (field image place n) �
 z_at n place b image f low high inside =
     sym (get_field image place n (b - place) b (omega (arith, low, high)) (omega (arith, low)))
     ∙ ap (λ xs. slice_get xs (b - place)) f ∙ get_replicate (length (field image place n)) (b - place) 122 (let e = length-field image place n in omega (arith, e, low, high, inside))
+
+-- a byte that stands there is the one that is read
+byte_there : (xs : List ℕ) (b v : ℕ) → slice_get xs b ≡ Some v → get_or xs b 0 ≡ v
+byte_there [] b v e = absurd (not_there v e)
+byte_there (x ∷ xs) zero v e = same_Some x v e
+byte_there (x ∷ xs) (suc b) v e = byte_there xs b v e
 
 -- the byte of a filler lies in one of the gaps that are fillers
 filler_at : (gaps : List Extent) (b : ℕ) → 0 < cover (filter is_filler gaps) b → (k : ℕ) × (g : Extent) × (slice_get gaps k ≡ Some g) × IsTrue (is_filler g) × (g.place ≤ b) × (b < end_of g)
@@ -66,11 +74,12 @@ module _ (old new : List ℕ) (tree : Tree) (p : Placement) (heap : Heap) (taken
       omega (arith, a, c, d, e)
 
   -- the fillers of the file hold `z`
-  pub holds_z : HoldsZ old p.heap.gaps
+  pub holds_z : HoldsFillers old p.heap.gaps
   holds_z b some =
       let f = filler_at p.heap.gaps b some in
-      z_at f.1.length f.1.place b old (h.fillers f.0 f.1 f.2 f.3) f.4 f.5
-      (within old tree p taken h b (let all = cover_all tree.wide p b in let gap = gap_in p.heap.gaps b some in omega (arith, all, gap)))
+      byte_there old b 122
+      (z_at f.1.length f.1.place b old (h.fillers f.0 f.1 f.2 f.3) f.4 f.5
+      (within old tree p taken h b (let all = cover_all tree.wide p b in let gap = gap_in p.heap.gaps b some in omega (arith, all, gap))))
     where
       gap_in : (gaps : List Extent) (b : ℕ) → 0 < cover (filter is_filler gaps) b → 0 < cover gaps b
       gap_in [] b some = some
@@ -99,7 +108,7 @@ module _ (old new : List ℕ) (tree : Tree) (p : Placement) (heap : Heap) (taken
   -- a range that the heap took is taken
   pub took : (kind : ExtentKind) (place n : ℕ) → ChangesIn (heap_fields ++ p.heap.gaps) old new
       → ((used : List Extent) → Tiles (used ++ p.heap.gaps) p.heap.end → Tiles (extent kind place n ∷ used ++ heap.gaps) heap.end)
-      → AreGapsInOrder heap.gaps → (PointsTo (field_in old HEADER_END) p.heap.end → PointsTo (field_in new HEADER_END) heap.end) → (HoldsZ old p.heap.gaps → HoldsZ new heap.gaps) → ThreadsFreeChunks new heap.gaps
+      → AreGapsInOrder heap.gaps → MovesEnd p.heap.end heap.end old new → KeepsFillers p.heap.gaps heap.gaps old new → ThreadsFreeChunks new heap.gaps
       → Holds new tree (record p { heap = heap }) (extent kind place n ∷ taken)
   took kind place n c tiles order end z threads = moved (heap_fields ++ p.heap.gaps) tree p placed taken (extent kind place n ∷ taken) old new h (record {
     parts = refl;
@@ -133,7 +142,7 @@ module _ (old new : List ℕ) (tree : Tree) (p : Placement) (heap : Heap) (taken
 pub gave : (old new : List ℕ) (tree : Tree) (p : Placement) (heap : Heap) (taken : List Extent) (kind other : ExtentKind) (place n : ℕ) → Holds old tree p (extent kind place n ∷ taken) → 266 ≤ place
     → ChangesIn (heap_fields ++ extent other place n ∷ p.heap.gaps) old new
     → ((used : List Extent) → Tiles (extent kind place n ∷ used ++ p.heap.gaps) p.heap.end → Tiles (used ++ heap.gaps) heap.end)
-    → AreGapsInOrder heap.gaps → (PointsTo (field_in old HEADER_END) p.heap.end → PointsTo (field_in new HEADER_END) heap.end) → (HoldsZ old p.heap.gaps → HoldsZ new heap.gaps) → ThreadsFreeChunks new heap.gaps
+    → AreGapsInOrder heap.gaps → MovesEnd p.heap.end heap.end old new → KeepsFillers p.heap.gaps heap.gaps old new → ThreadsFreeChunks new heap.gaps
     → Holds new tree (record p { heap = heap }) taken
 gave old new tree p heap taken kind other place n h low c tiles order end z threads =
     moved (heap_fields ++ extent other place n ∷ p.heap.gaps) tree p (record p { heap = heap }) (extent kind place n ∷ taken) taken old new h (record {

@@ -1,5 +1,5 @@
 -- The heap takes a range or is given one: what the file holds stays, and the range is taken or is none's any more.
-use Rattle.std.proofs.Common.{◌≡◌, ◌⊎◌, inl, inr, ℕ, zero, suc, refl, sym, ◌∙◌, ap, subst, arith, List, [], ◌∷◌, ◌++◌, length, filter, map, ◌+◌, ◌-◌, ◌*◌, ◌<◌, ◌≤◌, Bool, true, false, cond, min}
+use Rattle.std.proofs.Common.{◌≡◌, ◌⊎◌, inl, inr, ℕ, zero, suc, refl, sym, ◌∙◌, ap, subst, arith, List, [], ◌∷◌, ◌++◌, length, get_or, filter, map, ◌+◌, ◌-◌, ◌*◌, ◌<◌, ◌≤◌, Bool, true, false, cond, min}
 use Rattle.std.proofs.lemmas.Bool.Decides.{nat_tests}
 use Rattle.std.specs.Prelude.{Option, Some, slice_get, is_some, IsTrue, ◌==◌, ◌&&◌}
 use Rattle.adf_format.specs.declared.types.Extent.{Extent}
@@ -178,6 +178,12 @@ cover_filler (x ∷ xs) (suc k) b g e f low high = by_kind (is_filler x) (cover_
 pub fillers_spelled : (image : List ℕ) (gaps : List Extent) → ((b : ℕ) → 0 < cover (filter is_filler gaps) b → slice_get image b ≡ Some 122) → (k : ℕ) (g : Extent) → slice_get gaps k ≡ Some g → IsTrue (is_filler g) → IsFiller (field image g.place g.length)
 fillers_spelled image gaps z k g e f = filler_of g.length g.place image (λ b low high. z b (cover_filler gaps k b g e f low high))
 
+-- a byte that is read, and is not 0, stands there
+there_of : (xs : List ℕ) (b : ℕ) → get_or xs b 0 ≡ 122 → slice_get xs b ≡ Some 122
+there_of [] b e = absurd (omega (arith, e))
+there_of (x ∷ xs) zero e = ap Some e
+there_of (x ∷ xs) (suc b) e = there_of xs b e
+
 -- ---- the heap moves
 
 module _ (ranges : List Extent) (tree : Tree) (p q : Placement) (taken kept : List Extent) (old new : List ℕ) (h : Holds old tree p taken) (m : MovesHeap ranges tree p q kept old new) where
@@ -186,6 +192,9 @@ module _ (ranges : List Extent) (tree : Tree) (p q : Placement) (taken kept : Li
 
   in_head : (b : ℕ) → b < 186 → 0 < cover head_extents b
   in_head b lt = let held = range_in 0 186 b (omega arith) (omega (arith, lt)) in omega (arith, held)
+
+  filled : (b : ℕ) → 0 < cover (filter is_filler q.heap.gaps) b → slice_get new b ≡ Some 122
+  filled b some = there_of new b (m.fillers b some)
 
   pub moved : Holds new tree q kept
   moved = record {
@@ -209,13 +218,13 @@ module _ (ranges : List Extent) (tree : Tree) (p q : Placement) (taken kept : Li
         (h.nodes serial node parts at was);
     tiles = m.tiles;
     gaps = m.gaps;
-    fillers = fillers_spelled new q.heap.gaps m.fillers;
+    fillers = fillers_spelled new q.heap.gaps filled;
     threads = m.threads;
   }
     where
       held : (b : ℕ) → 0 < cover (all_extents tree.wide q) b → b < length new
       held b some = elim (less_or 0 (cover q.heap.gaps b)) [
-        | inl gap ↦ gaps_held new q.heap.gaps m.gaps m.threads m.fillers b gap
+        | inl gap ↦ gaps_held new q.heap.gaps m.gaps m.threads filled b gap
         | inr free ↦ (
             let now = cover_all tree.wide q b in
             let was = cover_all tree.wide p b in

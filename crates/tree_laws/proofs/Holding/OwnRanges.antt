@@ -1,5 +1,6 @@
 -- Where the header, the table and the data of a node lie: within the bytes, and in no range of another owner. And what a write leaves of a part that it does not meet.
-use Rattle.std.proofs.Common.{◌≡◌, ◌⊎◌, inl, inr, ℕ, refl, ◌∙◌, ap, arith, List, ◌∷◌, ◌++◌, length, ◌+◌, ◌-◌, ◌<◌, ◌≤◌, Bool, true, false}
+use Rattle.std.proofs.Common.{◌≡◌, ◌⊎◌, inl, inr, ℕ, refl, ◌∙◌, ap, arith, List, [], ◌∷◌, ◌++◌, length, ◌+◌, ◌-◌, ◌<◌, ◌≤◌, Bool, true, false}
+use Rattle.std.proofs.lemmas.Bool.Decides.{leb_tells}
 use Rattle.std.specs.Prelude.{Option, Some}
 use Rattle.adf_format.specs.declared.types.Extent.{Extent}
 use Rattle.adf_format.specs.declared.types.ExtentKind.{ExtentKind}
@@ -9,6 +10,7 @@ use Rattle.adf_format.specs.Tiles.{cover}
 use Rattle.adf_format.specs.Parts.{node_length, table_length}
 use Rattle.adf_format.specs.Placement.{Placement, NodeParts, TablePart, parts_of, extent, extents_of, node_extents, live_extents, table_extents, chunk_table_extents, chunk_extents}
 use Rattle.adf_format.specs.Changes.{Writes}
+pub use Rattle.adf_format.specs.HeapRule.{data_extents}
 use Rattle.adf_format.proofs.HeapSteps.{cover-append}
 use Rattle.adf_format.proofs.HeapLaws.{in_range}
 use Rattle.adf_format.proofs.FrameLaws.{field_kept}
@@ -16,7 +18,25 @@ use Rattle.adf_model.proofs.CreatedNodes.{there_inside}
 use Rattle.adf_model.proofs.PartsApart.{range_in, cover_all, cover_part}
 use Rattle.tree_laws.specs.Holding.{Holds, ChangesIn}
 use Rattle.tree_laws.proofs.Holding.Steps.{within}
-use Rattle.tree_laws.proofs.Edits.EntryJoined.{out}
+
+-- a byte that a range does not hold lies before it or behind it
+pub out : (p n i long : ℕ) → long ≡ n → in_range p n i ≡ 0 → (i < p) ⊎ (p + long ≤ i)
+out p n i long e none = elim (leb_tells p i) [
+  | inr before ↦ inl before.1
+  | inl from ↦ elim (leb_tells (p + long) i) [
+    | inl behind ↦ inr behind.1
+    | inr inside ↦ absurd (let held = range_in p n i from.1 (let j = inside.1 in omega (arith, j, e)) in omega (arith, held, none))
+  ]
+]
+
+-- two writes are changes in their ranges
+pub two_written : (k l : ExtentKind) (a m b n : ℕ) (s t old middle new : List ℕ) → Writes a s old middle → length s ≡ m → Writes b t middle new → length t ≡ n → ChangesIn (extent k a m ∷ extent l b n ∷ []) old new
+two_written k l a m b n s t old middle new v e w f = record {
+  longer = (let x = v.longer in let y = w.longer in omega (arith, x, y));
+  others = λ i lt none.
+      let x = v.longer in
+      w.others i (omega (arith, x, lt)) (out b n i (length t) f (omega (arith, none))) ∙ v.others i lt (out a m i (length s) e (omega (arith, none)));
+}
 
 pub least : (wide : Bool) → 246 ≤ node_length wide
 least false = omega arith
@@ -42,10 +62,6 @@ changes_joined xs ys old middle new c d = record {
       let x = c.longer in
       d.others b (omega (arith, lt, x)) (omega (arith, both, none)) ∙ c.others b lt (omega (arith, both, none));
 }
-
--- the data of a node
-abbrev pub data_extents : NodeParts → List Extent
-data_extents at = chunk_table_extents at.chunk_table (length at.chunks) ++ chunk_extents at.chunks
 
 module _ (old : List ℕ) (tree : Tree) (p : Placement) (taken : List Extent) (k : ℕ) (at : NodeParts) (t : TablePart) (h : Holds old tree p taken) (placed : parts_of p k ≡ Some at) (has : at.table ≡ Some t) where
   pub own_split : (b : ℕ) → cover (node_extents tree.wide at) b ≡ in_range at.header (node_length tree.wide) b + (in_range t.place (table_length t.entries) b + cover (data_extents at) b)

@@ -38,7 +38,7 @@ use Rattle.tree_laws.specs.NodeJoin.{with_parts_of_new}
 use Rattle.tree_laws.specs.LeavingSteps.{DeletionLeaves, JoinLeaves, TableJoinLeaves}
 use Rattle.tree_laws.proofs.Holding.Steps.{once}
 use Rattle.tree_laws.proofs.Edits.LabelSet.{written_in, set_here, set_there}
-use Rattle.tree_laws.proofs.Edits.EntryJoined.{two_written}
+use Rattle.tree_laws.proofs.Holding.OwnRanges.{two_written}
 use Rattle.tree_laws.proofs.Leaving.LeavingLaws.{of_node}
 use Rattle.tree_laws.proofs.Deletes.DeletedTree.{deleted_in_its_tree}
 use Rattle.tree_laws.proofs.Data.DataSwitched.{own_parts}

@@ -28,10 +28,9 @@ use Rattle.tree_laws.specs.Holding.{Holds, ChangesIn, MeetsNothing}
 use Rattle.tree_laws.specs.Leaving.{Leaves}
 use Rattle.tree_laws.proofs.Holding.Steps.{once}
 use Rattle.tree_laws.proofs.Holding.NodeFields.{count_written}
-use Rattle.tree_laws.proofs.Edits.EntryJoined.{two_written}
+use Rattle.tree_laws.proofs.Holding.OwnRanges.{two_written, least, beside, changes_joined, data_extents, own_split, own_is, held, header_ends, table_ends}
 use Rattle.tree_laws.proofs.Deletes.NodesLeft.{others_are, kept_at}
 use Rattle.tree_laws.proofs.Tables.TableReplaced.{few_dims, node_too}
-use Rattle.tree_laws.proofs.Holding.OwnRanges.{least, beside, changes_joined, data_extents, own_split, own_is, held, header_ends, table_ends}
 use Rattle.tree_laws.proofs.Tables.ListClosed.{closed_table, entry_before, entry_behind, entry_near}
 use Rattle.tree_laws.proofs.Tables.ListsChanged.{name_short, others_long, one_more, neither_of, one_of_both, was_named, node_again, lists_changed}
 use Rattle.tree_laws.proofs.Leaving.ListsLeave.{list_extents, count_or_dims, data_within, lists_leave}
