@@ -9,6 +9,7 @@ pub mod Tiles
 pub mod Parts
 pub mod Placement
 pub mod LaysOut
+pub mod RuleNumbers
 pub mod Checks
 pub mod FirstFault
 pub mod HeapRule

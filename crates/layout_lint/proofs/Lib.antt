@@ -1,6 +1,7 @@
 pub mod PageLaws
 pub mod ReadLaws
 pub mod RowSteps
+pub mod RuleLaws
 pub mod HeadLaws
 pub mod EntryLaws
 pub mod TableLaws
@@ -9,6 +10,8 @@ pub mod NodeLaws
 mod FillerLaws
 mod GapLaws
 mod TilingLaws
+pub mod SetLaws
+pub mod ShapeLaws
 pub mod ChunkListLaws
 pub mod StackLaws
 pub mod SearchLaws

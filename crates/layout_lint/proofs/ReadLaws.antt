@@ -31,6 +31,6 @@ reads_none k a = record { held = refl; lost = refl; writes = refl; reads = omega
 
 -- a cause of a later call is one of both
 pub count_then : (a b z : ℕ) (h : Halt) → a ≤ b → HasCount b z h → HasCount a z h
-count_then a b z (halt.Broken x) le c = tt
+count_then a b z (halt.Broken x) le c = c
 count_then a b z halt.Memory le c = absurd c
 count_then a b z halt.Read le c = omega arith

@@ -1,5 +1,6 @@
 -- What ends the work of the linter before its end.
 use Rattle.std.specs.Prelude.{◌≡◌, ℕ, List, Some, None, Result, Ok, Err}
+use Rattle.adf_format.specs.RuleNumbers.{IsRule}
 use Rattle.adf_format.specs.Checks.{Row, Fault, first_broken}
 use Rattle.cg_io.specs.Cause.{Rose}
 use Rattle.layout_lint.specs.declared.verdict.Broken.{Broken}
@@ -21,15 +22,15 @@ abbrev pub Finds : {T : Type 0} → List Row → Result T Halt → Type 0
 Finds rows (Ok x) = first_broken rows ≡ None
 Finds rows (Err h) = Breaks rows h
 
--- what ends a call that takes no memory: a broken rule, or a failed read where the count of faults rose
+-- what ends a call that takes no memory: a broken rule, which is one of a layout, or a failed read where the count of faults rose
 abbrev pub HasCount : ℕ → ℕ → Halt → Type 0
-HasCount before now (halt.Broken b) = Unit {0}
+HasCount before now (halt.Broken b) = IsRule b.rule
 HasCount before now halt.Memory = ⊥
 HasCount before now halt.Read = Rose before now
 
 -- the same of a call that takes memory
 abbrev pub MayLackMemory : ℕ → ℕ → Halt → Type 0
-MayLackMemory before now (halt.Broken b) = Unit {0}
+MayLackMemory before now (halt.Broken b) = IsRule b.rule
 MayLackMemory before now halt.Memory = Unit {0}
 MayLackMemory before now halt.Read = Rose before now
 

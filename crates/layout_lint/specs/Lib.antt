@@ -8,6 +8,7 @@ pub mod Nodes
 pub mod Fillers
 pub mod Gaps
 pub mod Walks
+pub mod Shapes
 pub mod Lists
 pub mod Verdicts
 pub mod Owners

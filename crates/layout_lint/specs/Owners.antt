@@ -6,6 +6,7 @@ use Rattle.cg_io.specs.Device.{DeviceState}
 use Rattle.adf_model.specs.declared.error.AdfError.{AdfError}
 use Rattle.adf_model.specs.declared.error.AdfError.TheVariants as error
 use Rattle.adf_format.specs.declared.types.Extent.{Extent}
+use Rattle.adf_format.specs.RuleNumbers.{IsRule}
 use Rattle.adf_format.specs.Checks.{first_broken}
 use Rattle.adf_format.specs.Tree.{Tree}
 use Rattle.adf_format.specs.Tiles.{total_length}
@@ -68,5 +69,5 @@ IsNoLayout other = ⊤
 abbrev pub MayRefuse : ℕ → ℕ → AdfError → Type 0
 MayRefuse before now error.Memory = ⊤
 MayRefuse before now error.ReadFault = Rose before now
-MayRefuse before now (error.Layout rule place) = ⊤
+MayRefuse before now (error.Layout rule place) = IsRule rule
 MayRefuse before now other = ⊥

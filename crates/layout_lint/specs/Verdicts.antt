@@ -3,6 +3,7 @@ use Rattle.std.specs.Prelude.{◌≡◌, ℕ, Bool, true, false, List, map, ⊤}
 use Rattle.cg_io.specs.Cause.{Rose}
 use Rattle.adf_model.specs.declared.error.AdfError.{AdfError}
 use Rattle.adf_model.specs.declared.error.AdfError.TheVariants as error
+use Rattle.adf_format.specs.RuleNumbers.{IsRule}
 use Rattle.adf_format.specs.Verdict.{IsLaidOutAs}
 use Rattle.adf_format.specs.FirstFault.{FirstFault}
 use Rattle.layout_lint.specs.Halts.{fault}
@@ -20,6 +21,11 @@ is_sound (says.Unsound rule place) = false
 abbrev pub IsVerdict : List ℕ → Verdict → Type 0
 IsVerdict image (says.Sound nodes gaps end format wide) = IsLaidOutAs image (map node_place nodes) gaps end format wide
 IsVerdict image (says.Unsound rule place) = FirstFault image (record { rule = rule; place = place })
+
+-- a rule that is named is one of a layout
+abbrev pub NamesRule : Verdict → Type 0
+NamesRule (says.Sound nodes gaps end format wide) = ⊤
+NamesRule (says.Unsound rule place) = IsRule rule
 
 -- a broken rule is the image's first
 abbrev pub IsFault : List ℕ → Halt → Type 0

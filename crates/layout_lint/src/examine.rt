@@ -7,7 +7,8 @@ ghost use Rattle.adf_records.specs.View.{HasFreeOffsets};
 ghost use Rattle.layout_lint.specs.Told.{Told, IsReady};
 ghost use Rattle.layout_lint.specs.Halts.{MayLackMemory};
 ghost use Rattle.layout_lint.specs.Heads.{IsHead};
-ghost use Rattle.layout_lint.specs.Verdicts.{IsVerdict, IsFault, MayFail, is_sound};
+ghost use Rattle.layout_lint.specs.Shapes.{HasShape};
+ghost use Rattle.layout_lint.specs.Verdicts.{IsVerdict, NamesRule, IsFault, MayFail, is_sound};
 
 use crate::gaps::look_at_tiling;
 use crate::head::{Head, look_at_head};
@@ -33,6 +34,7 @@ fn look_behind_head<B: Blocks>(
     requires offsets { HasFreeOffsets head.now.lists }
     ensures ready { IsReady (B.is_sound blocks.new) (B.state blocks.new).held page.new }
     ensures sound { IfOk result (λ verdict. is_sound verdict ≡ true) }
+    ensures shape { IfOk result HasShape }
     ensures laid_out { IfOk result (λ verdict. Told (B.state blocks.old).held (λ image. IsHead image head.now → IsVerdict image verdict)) }
     ensures broken { IfErr result (λ h. Told (B.state blocks.old).held (λ image. IsHead image head.now → IsFault image h)) }
     ensures effect { ReadsFew (8 * (head.now.span.end + 1) + 13) (B.state blocks.old) (B.state blocks.new) }
@@ -70,6 +72,7 @@ fn look_at_all<B: Blocks>(alloc: Global, blocks: &mut B) -> Result<Verdict, Halt
     requires { B.is_sound blocks.old }
     ensures layer { B.is_sound blocks.new }
     ensures sound { IfOk result (λ verdict. is_sound verdict ≡ true) }
+    ensures shape { IfOk result HasShape }
     ensures laid_out { IfOk result (λ verdict. Told (B.state blocks.old).held (λ image. IsVerdict image verdict)) }
     ensures broken { IfErr result (λ h. Told (B.state blocks.old).held (λ image. IsFault image h)) }
     ensures effect { ReadsFew (8 * 2 ^ 44 + 16) (B.state blocks.old) (B.state blocks.new) }
@@ -92,6 +95,8 @@ pub fn lint<B: Blocks>(alloc: Global, blocks: &mut B) -> Result<Verdict, AdfErro
     requires { B.is_sound blocks.old }
     ensures layer { B.is_sound blocks.new }
     ensures verdict { IfOk result (λ verdict. Told (B.state blocks.old).held (λ image. IsVerdict image verdict)) }
+    ensures shape { IfOk result HasShape }
+    ensures rule { IfOk result NamesRule }
     ensures exactly { IfOk result (λ verdict. Told (B.state blocks.old).held (λ image. IsTrue (is_sound verdict) ↔ IsSound image)) }
     ensures effect { ReadsFew (8 * 2 ^ 44 + 16) (B.state blocks.old) (B.state blocks.new) }
     ensures few { Told (B.state blocks.old).held (λ image. ReadsFew (8 * length image + 16) (B.state blocks.old) (B.state blocks.new)) }

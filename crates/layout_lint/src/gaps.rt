@@ -8,6 +8,7 @@ ghost use Rattle.adf_format.specs.Tiles.{is_free};
 ghost use Rattle.layout_laws.specs.TilePass.{AreBlank, filled_up, passed_gaps};
 ghost use Rattle.layout_lint.specs.Fillers.{IsHole};
 ghost use Rattle.layout_lint.specs.Gaps.{IsSolid, StopsAt, IsMisplaced, AreTiled};
+ghost use Rattle.layout_lint.specs.Shapes.{AreSet};
 ghost use Rattle.layout_lint.specs.Halts.{MayLackMemory};
 ghost use Rattle.layout_lint.specs.Told.{Told, IsReady};
 ghost use Rattle.cg_io.specs.Blocks.{ReadsFew};
@@ -109,6 +110,7 @@ pub fn look_at_tiling<B: Blocks>(
     requires solid { All (IsSolid span.end) extents.items }
     ensures ready { IsReady (B.is_sound blocks.new) (B.state blocks.new).held page.new }
     ensures tiled { IfOk result (λ gaps. Told (B.state blocks.old).held (λ image. span.end < length image → AreTiled image extents.items span.end gaps.items)) }
+    ensures set { IfOk result (λ gaps. AreSet extents.items span.end gaps.items) }
     ensures bad { IfErr result (λ h. Told (B.state blocks.old).held (λ image. span.end < length image → IsMisplaced image extents.items span.end h)) }
     ensures effect { ReadsFew (span.end + 1) (B.state blocks.old) (B.state blocks.new) }
     ensures cause { IfErr result (MayLackMemory (B.state blocks.old).faults (B.state blocks.new).faults) }

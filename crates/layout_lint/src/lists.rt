@@ -14,6 +14,7 @@ ghost use Rattle.layout_laws.specs.ListPass.{free_rows_at, named_place};
 ghost use Rattle.layout_lint.specs.Told.{Told, IsReady};
 ghost use Rattle.layout_lint.specs.Halts.{Finds, HasCount, MayLackMemory, IsWant};
 ghost use Rattle.layout_lint.specs.Gaps.{IsSolid};
+ghost use Rattle.layout_lint.specs.Shapes.{Adds};
 ghost use Rattle.layout_lint.specs.Lists.{HasBegun, HasCome, HasLists, IsListAt, KeepsFree, EndsLists, agrees, first_of, free_byte_rows, tail_said};
 ghost use Rattle.layout_lint.specs.Heads.{IsSpan};
 ghost use Rattle.adf_format.specs.Records.{free_table_record};
@@ -179,6 +180,7 @@ fn look_at_free<B: Blocks>(
     ensures kept { OnOk result (Told (B.state blocks.old).held (λ image. span.end < length image → KeepsFree image at frees.old frees.new)) }
     ensures next { IfOk result (λ next. Told (B.state blocks.old).held (λ image. span.end < length image → next ≡ named_place (field image (at + 16) 12))) }
     ensures bound { IfOk result (λ next. IfSome next (λ place. place < 2 ^ 44)) }
+    ensures adds { OnOk result (Adds frees.old.extents.items frees.new.extents.items) }
     ensures more { OnOk result (frees.old.used + 32 ≤ frees.new.used) }
     ensures room { OnOk result (frees.new.used ≤ span.end + 1) }
     ensures solid { OnOk result (All (IsSolid span.end) frees.old.extents.items → All (IsSolid span.end) frees.new.extents.items) }
@@ -221,6 +223,7 @@ fn look_at_list<B: Blocks>(
         → HasCome image nodes base number (first_of list) later frees.old → HasCome image nodes base number None later frees.new)) }
     ensures stops { IfErr result (λ h. Told (B.state blocks.old).held (λ image. (nodes : List Visit) (base : List Extent) (number : ℕ) (later : List FreeVisit) → IsSpan image span → IsListAt image number list
         → HasCome image nodes base number (first_of list) later frees.old → EndsLists image nodes h)) }
+    ensures adds { OnOk result (Adds frees.old.extents.items frees.new.extents.items) }
     ensures room { OnOk result ((frees.old.used ≤ frees.new.used) × (frees.new.used ≤ span.end + 1)) }
     ensures solid { OnOk result (All (IsSolid span.end) frees.old.extents.items → All (IsSolid span.end) frees.new.extents.items) }
     ensures few { OnOk result (ReadsFew (frees.new.used - frees.old.used) (B.state blocks.old) (B.state blocks.new)) }
@@ -254,6 +257,7 @@ fn sweep<B: Blocks>(
         → HasBegun image nodes base frees.old → HasCome image nodes base 2 None [] frees.new)) }
     ensures stops { IfErr result (λ h. Told (B.state blocks.old).held (λ image. (nodes : List Visit) (base : List Extent) → IsSpan image span → HasLists image table.now
         → HasBegun image nodes base frees.old → EndsLists image nodes h)) }
+    ensures adds { OnOk result (Adds frees.old.extents.items frees.new.extents.items) }
     ensures solid { OnOk result (All (IsSolid span.end) frees.old.extents.items → All (IsSolid span.end) frees.new.extents.items) }
     ensures effect { ReadsFew (span.end + 1 - frees.old.used + 4) (B.state blocks.old) (B.state blocks.new) }
     ensures cause { IfErr result (MayLackMemory (B.state blocks.old).faults (B.state blocks.new).faults) }
@@ -305,6 +309,7 @@ pub fn look_at_lists<B: Blocks>(
         → (frees : List FreeVisit) × FreeWalk image nodes (Ok frees) × (all.items ≡ extents.items ++ map (free_extent image) frees))) }
     ensures stops { IfErr result (λ h. Told (B.state blocks.old).held (λ image. (nodes : List Visit) → IsSpan image span → pointers_of table.now ≡ free_table_record (field image 186 80)
         → first_broken (free_table_rows 186 (field image 186 80)) ≡ None → used ≡ 266 + total_length (found_extents image (is_wide image) nodes) → EndsLists image nodes h)) }
+    ensures adds { IfOk result (λ all. Adds extents.items all.items) }
     ensures solid { IfOk result (λ all. All (IsSolid span.end) extents.items → All (IsSolid span.end) all.items) }
     ensures effect { ReadsFew (span.end + 1 - used + 4) (B.state blocks.old) (B.state blocks.new) }
     ensures cause { IfErr result (MayLackMemory (B.state blocks.old).faults (B.state blocks.new).faults) }

@@ -4,13 +4,14 @@ ghost use Rattle.std.specs.Prelude.{◌≡◌, ◌^◌, ◌+◌, ◌-◌, ◌*�
 ghost use Rattle.std.specs.List.{All};
 ghost use Rattle.cg_io.specs.Blocks.{ReadsFew};
 ghost use Rattle.adf_format.specs.Names.{is_lk};
-ghost use Rattle.adf_format.specs.Parts.{table_length};
+ghost use Rattle.adf_format.specs.Parts.{table_length, node_length};
 ghost use Rattle.adf_format.specs.Tiles.{total_length};
 ghost use Rattle.adf_records.specs.View.{HasOffsets};
 ghost use Rattle.layout_laws.specs.NodePass.{node_rows_at};
 ghost use Rattle.layout_lint.specs.Told.{Told, IsReady};
 ghost use Rattle.layout_lint.specs.Halts.{Finds, MayLackMemory};
 ghost use Rattle.layout_lint.specs.Gaps.{IsSolid};
+ghost use Rattle.layout_lint.specs.Shapes.{Adds, AddsNode};
 ghost use Rattle.layout_lint.specs.Nodes.{extents_at, LeadsTo, IsNext, IsHeaderAt, table_of, children_rows, table_extents, data_rows_at, data_extents_at};
 
 use crate::chunks::{Chunks, add_extent, look_at_chunks, look_at_listing};
@@ -135,6 +136,7 @@ fn look_at_data<B: Blocks>(
     ensures used { IfOk result (λ n. Told (B.state blocks.old).held (λ image. span.end < length image → IsHeaderAt image span.wide place header.now → n ≡ used + total_length (data_extents_at image span.wide place))) }
     ensures extents { OnOk result (Told (B.state blocks.old).held (λ image. span.end < length image → IsHeaderAt image span.wide place header.now
         → extents.new.items ≡ extents.old.items ++ data_extents_at image span.wide place)) }
+    ensures adds { OnOk result (Adds extents.old.items extents.new.items) }
     ensures solid { OnOk result (All (IsSolid span.end) extents.old.items → All (IsSolid span.end) extents.new.items) }
     ensures bounds { IfOk result (λ n. (used ≤ n) × (n ≤ span.end + 1)) }
     ensures few { IfOk result (λ n. ReadsFew (n - used) (B.state blocks.old) (B.state blocks.new)) }
@@ -180,6 +182,8 @@ pub fn look<B: Blocks>(
     ensures rows { Told (B.state blocks.old).held (λ image. span.end < length image → Finds (node_rows_at image span.wide span.end known used met.now.place met.now.entry met.now.depth) result) }
     ensures leads { IfOk result (λ next. Told (B.state blocks.old).held (λ image. span.end < length image → LeadsTo image span.wide used met.now.place next)) }
     ensures extents { OnOk result (Told (B.state blocks.old).held (λ image. span.end < length image → extents.new.items ≡ extents.old.items ++ extents_at image span.wide met.now.place)) }
+    ensures adds { OnOk result (AddsNode span.wide met.now.place extents.old.items extents.new.items) }
+    ensures inside { OnOk result ((266 ≤ met.now.place) × (met.now.place + node_length span.wide ≤ span.end + 1)) }
     ensures next { IfOk result (IsNext span.end used met.now.depth) }
     ensures solid { OnOk result (All (IsSolid span.end) extents.new.items) }
     ensures effect { ReadsFew (3 * (span.end + 1) + 32) (B.state blocks.old) (B.state blocks.new) }

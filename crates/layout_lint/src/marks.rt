@@ -3,6 +3,7 @@
 ghost use Rattle.std.specs.Prelude.{◌≡◌, ◌^◌, ◌+◌, ◌≤◌, ◌<◌, [], ◌∷◌, length, IfOk, IfErr, IfSome, MatchOption, OnOk, option_map, true, false};
 ghost use Rattle.cg_io.specs.Blocks.{ReadsFew};
 ghost use Rattle.adf_format.specs.Pointer.{pointer, is_place, place_of};
+ghost use Rattle.adf_format.specs.RuleNumbers.{IsRule};
 ghost use Rattle.adf_format.specs.FirstFault.{is_pointer_to};
 ghost use Rattle.adf_format.specs.Fields.{field};
 ghost use Rattle.disk_ptr.specs.View.{view, HasOffset};
@@ -38,6 +39,7 @@ pub fn look_at_start<B: Blocks, const N: usize>(
     requires few { N ≤ 4096 }
     requires tag { 4 ≤ N }
     requires least { N ≤ mark.least }
+    requires rule { IsRule mark.rule }
     ensures ready { IsReady (B.is_sound blocks.new) (B.state blocks.new).held page.new }
     ensures rows { Told (B.state blocks.old).held (λ image. span.end < length image → Finds (start_row image span.end mark ∷ []) result) }
     ensures says { IfOk result (λ head. Told (B.state blocks.old).held (λ image. span.end < length image → head ≡ field image mark.place N)) }
@@ -67,6 +69,7 @@ pub fn look_at_tail<B: Blocks>(
 ) -> Result<(), Halt>
     requires ready { IsReady (B.is_sound blocks.old) (B.state blocks.old).held page.old }
     requires within { tail + 4 ≤ 2 ^ 44 }
+    requires rule { IsRule mark.rule }
     ensures ready { IsReady (B.is_sound blocks.new) (B.state blocks.new).held page.new }
     ensures rows { Told (B.state blocks.old).held (λ image. tail + 4 ≤ length image → Finds (tail_row image mark tail ∷ []) result) }
     ensures effect { ReadsFew 2 (B.state blocks.old) (B.state blocks.new) }

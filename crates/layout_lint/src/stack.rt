@@ -8,6 +8,7 @@ ghost use Rattle.layout_laws.specs.NodePass.{waiting_child, waiting_children};
 ghost use Rattle.layout_lint.specs.Told.{Told, IsReady};
 ghost use Rattle.layout_lint.specs.Halts.{HasCount, MayLackMemory, IsNoFault};
 ghost use Rattle.layout_lint.specs.Walks.{waiting_of};
+ghost use Rattle.layout_lint.specs.Shapes.{IsChildIn, AddsChildren};
 
 use crate::entries::Table;
 use crate::marks::place_or_zero;
@@ -54,6 +55,7 @@ fn child_at<B: Blocks>(
     ensures ready { IsReady (B.is_sound blocks.new) (B.state blocks.new).held page.new }
     ensures says { IfOk result (λ met. Told (B.state blocks.old).held (λ image. family.table.place + 16 + 44 * position + 44 ≤ length image
         → waiting_of met ≡ waiting_child image family.table.place family.number (family.depth + 1) position)) }
+    ensures child { IfOk result (IsChildIn family) }
     ensures no_fault { IfErr result IsNoFault }
     ensures effect { ReadsFew 2 (B.state blocks.old) (B.state blocks.new) }
     ensures cause { IfErr result (HasCount (B.state blocks.old).faults (B.state blocks.new).faults) }
@@ -78,6 +80,7 @@ pub fn push_children<B: Blocks>(
     ensures ready { IsReady (B.is_sound blocks.new) (B.state blocks.new).held page.new }
     ensures put { OnOk result (Told (B.state blocks.old).held (λ image. (0 < family.children → family.table.place + 16 + 44 * family.children ≤ length image)
         → map waiting_of stack.new.items ≡ map waiting_of stack.old.items ++ reverse (waiting_children image family.table.place family.number (family.depth + 1) family.children))) }
+    ensures adds { OnOk result (AddsChildren family stack.old.items stack.new.items) }
     ensures no_fault { IfErr result IsNoFault }
     ensures effect { ReadsFew (2 * family.children) (B.state blocks.old) (B.state blocks.new) }
     ensures cause { IfErr result (MayLackMemory (B.state blocks.old).faults (B.state blocks.new).faults) }

@@ -1,6 +1,6 @@
 //! The walk over the nodes of a file, from the root, each before its children.
 
-ghost use Rattle.std.specs.Prelude.{◌≡◌, ◌^◌, ◌+◌, ◌-◌, ◌*◌, ℕ, List, ◌≤◌, ◌<◌, length, IfOk, IfErr, OnOk};
+ghost use Rattle.std.specs.Prelude.{◌≡◌, ◌^◌, ◌+◌, ◌-◌, ◌*◌, ℕ, Bool, List, ◌≤◌, ◌<◌, length, IfOk, IfErr, OnOk};
 ghost use Rattle.std.specs.List.{All};
 ghost use Rattle.cg_io.specs.Blocks.{ReadsFew};
 ghost use Rattle.adf_format.specs.FirstFault.{root_visit, is_wide, end_in};
@@ -9,6 +9,7 @@ ghost use Rattle.layout_lint.specs.Halts.{MayLackMemory, IsWant};
 ghost use Rattle.layout_lint.specs.Heads.{IsHead};
 ghost use Rattle.layout_lint.specs.Gaps.{IsSolid};
 ghost use Rattle.layout_lint.specs.Walks.{IsSearch, IsFound, EndsWalk, KeepsNode};
+ghost use Rattle.layout_lint.specs.Shapes.{IsSteady, IsWhole};
 
 use crate::chunks::add_extent;
 use crate::head::{HEAD_LENGTH, Head};
@@ -49,6 +50,7 @@ fn start(alloc: Global, root: u64) -> Result<Search, Halt>
     ensures begun { IfOk result (λ search. (image : List ℕ) → root ≡ (root_visit image).place → IsSearch image search) }
     ensures used { IfOk result (λ search. search.used ≡ 266) }
     ensures solid { IfOk result (λ search. (end : ℕ) → 265 ≤ end → All (IsSolid end) search.extents.items) }
+    ensures steady { IfOk result (λ search. (wide : Bool) (end : ℕ) → IsSteady wide end search) }
     ensures want { IfErr result IsWant }
 {
     let mut stack = Vec::new(alloc);
@@ -108,12 +110,14 @@ fn turn<B: Blocks>(
     requires end { span.end < 2 ^ 44 }
     requires some { 0 < length search.old.stack.items }
     requires solid { All (IsSolid span.end) search.old.extents.items }
+    requires steady { IsSteady span.wide span.end search.old }
     ensures ready { IsReady (B.is_sound blocks.new) (B.state blocks.new).held page.new }
     ensures goes_on { OnOk result (Told (B.state blocks.old).held (λ image. span.end < length image → span.wide ≡ is_wide image → span.end ≡ end_in image → IsSearch image search.old → IsSearch image search.new)) }
     ensures stops { IfErr result (λ h. Told (B.state blocks.old).held (λ image. span.end < length image → span.wide ≡ is_wide image → span.end ≡ end_in image → IsSearch image search.old → EndsWalk image h)) }
     ensures more { OnOk result (search.old.used < search.new.used) }
     ensures room { OnOk result (search.new.used ≤ span.end + 1) }
     ensures solid { OnOk result (All (IsSolid span.end) search.new.extents.items) }
+    ensures steady { OnOk result (IsSteady span.wide span.end search.new) }
     ensures few { OnOk result (ReadsFew (search.new.used - search.old.used) (B.state blocks.old) (B.state blocks.new)) }
     ensures effect { ReadsFew (3 * (span.end + 1) + 32) (B.state blocks.old) (B.state blocks.new) }
     ensures cause { IfErr result (MayLackMemory (B.state blocks.old).faults (B.state blocks.new).faults) }
@@ -159,6 +163,7 @@ pub fn look_at_nodes<B: Blocks>(
     ensures found { IfOk result (λ found. Told (B.state blocks.old).held (λ image. IsHead image head.now → IsFound image found)) }
     ensures stops { IfErr result (λ h. Told (B.state blocks.old).held (λ image. IsHead image head.now → EndsWalk image h)) }
     ensures solid { IfOk result (λ found. All (IsSolid head.now.span.end) found.extents.items) }
+    ensures whole { IfOk result (IsWhole head.now.span.wide head.now.span.end) }
     ensures room { IfOk result (λ found. found.used ≤ head.now.span.end + 1) }
     ensures few { IfOk result (λ found. ReadsFew found.used (B.state blocks.old) (B.state blocks.new)) }
     ensures effect { ReadsFew (5 * (head.now.span.end + 1)) (B.state blocks.old) (B.state blocks.new) }

@@ -106,7 +106,7 @@ pub refuses : (nodes : List code.NodePlace) (owned : List Owned) (end k : ℕ) (
     → Says (Listed nodes owned end old new) start (takes after) first (counts after) result
 refuses nodes owned end k old mid new O takes counts given result start first before after so reads cause lawful rises told =
     refuses_behind (Listed nodes owned end old new) O takes counts given so.lines result start first before after mid.faults new.faults
-    (λ rule place is. Listed.changed so.lines rule place (λ image held gaps last format wide laid. subst IsNoLayout is (lawful image (reads.held ∙ held) gaps last format wide laid)))
+    (λ rule place rules is. Listed.changed so.lines rule place rules (λ image held gaps last format wide laid. subst IsNoLayout is (lawful image (reads.held ∙ held) gaps last format wide laid)))
     (λ rose. Listed.failed k so.lines (omega (arith, rose, reads.faults)) so.tells) (Listed.lacking k so.tells) cause so.took rises told
 
 -- all lines, and the last byte

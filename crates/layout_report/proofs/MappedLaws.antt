@@ -3,6 +3,7 @@ use Rattle.std.proofs.Common.{◌≡◌, ◌⊎◌, inl, inr, ℕ, ◌≤◌, Bo
 use Rattle.std.specs.List.{All}
 use Rattle.std.proofs.KnownBytes.{Appends-nil}
 use Rattle.cg_io.specs.Device.{DeviceState}
+use Rattle.adf_format.specs.RuleNumbers.{IsRule}
 use Rattle.adf_format.specs.FirstFault.{FirstFault}
 use Rattle.adf_format.specs.Verdict.{IsLaidOutAs}
 use Rattle.adf_format.specs.declared.types.Extent.{Extent}
@@ -62,8 +63,8 @@ pub listed_mapped : (nodes : List code.NodePlace) (gaps : List Extent) (end : �
     → (report : Report) (text : List ℕ) → Listed nodes owned end mid new report text → Mapped old new report text
 listed_mapped nodes gaps end owned old mid new reads sound there all _ _ (Listed.whole lines tells) =
     Mapped.whole (λ image held. maps nodes gaps end owned lines image (sound image held) there (all image held) (tells image (reads.held ∙ held)))
-listed_mapped nodes gaps end owned old mid new reads sound there all _ _ (Listed.changed lines rule place none) =
-    Mapped.changed lines rule place (λ image held. let is = sound image held in none image (reads.held ∙ held) gaps end is.0 is.1 is.2)
+listed_mapped nodes gaps end owned old mid new reads sound there all _ _ (Listed.changed lines rule place rules none) =
+    Mapped.changed lines rule place rules (λ image held. let is = sound image held in none image (reads.held ∙ held) gaps end is.0 is.1 is.2)
 listed_mapped nodes gaps end owned old mid new reads sound there all _ _ (Listed.failed k lines rose tells) =
     Mapped.failed lines (omega (arith, rose, reads.faults)) (λ image held. begins nodes gaps end k owned lines image (sound image held) there (all image held) (tells image (reads.held ∙ held)))
 listed_mapped nodes gaps end owned old mid new reads sound there all _ _ (Listed.lacking k {lines = lines} tells) =
@@ -72,8 +73,8 @@ listed_mapped nodes gaps end owned old mid new reads sound there all _ _ (Listed
 -- what is said after some reads
 pub mapped_before : (old mid new : DeviceState) → mid.held ≡ old.held → old.faults ≤ mid.faults → (report : Report) (text : List ℕ) → Mapped mid new report text → Mapped old new report text
 mapped_before old mid new same rises _ _ (Mapped.whole is) = Mapped.whole (λ image held. is image (same ∙ held))
-mapped_before old mid new same rises _ _ (Mapped.broken rule place is) = Mapped.broken rule place (λ image held. is image (same ∙ held))
-mapped_before old mid new same rises _ _ (Mapped.changed lines rule place is) = Mapped.changed lines rule place (λ image held. is image (same ∙ held))
+mapped_before old mid new same rises _ _ (Mapped.broken rule place rules is) = Mapped.broken rule place rules (λ image held. is image (same ∙ held))
+mapped_before old mid new same rises _ _ (Mapped.changed lines rule place rules is) = Mapped.changed lines rule place rules (λ image held. is image (same ∙ held))
 mapped_before old mid new same rises _ _ (Mapped.failed lines rose is) = Mapped.failed lines (omega (arith, rose)) (λ image held. is image (same ∙ held))
 mapped_before old mid new same rises _ _ (Mapped.lacking is) = Mapped.lacking (λ image held. is image (same ∙ held))
 
@@ -84,7 +85,7 @@ pub refuses_at_once : (old new : DeviceState) (O : Type 0) (takes : O → Option
     → Says (Mapped old new) (takes before) (takes after) (counts before) (counts after) result
 refuses_at_once old new O takes counts given result before after cause lawful told =
     refuses_behind (Mapped old new) O takes counts given [] result (takes before) (counts before) before after old.faults new.faults
-    (λ rule place is. Mapped.changed [] rule place (λ image held. subst IsNoLayout is (lawful image held)))
+    (λ rule place rules is. Mapped.changed [] rule place rules (λ image held. subst IsNoLayout is (lawful image held)))
     (λ rose. Mapped.failed [] rose (λ image held. inl refl)) (Mapped.lacking (λ image held. inl refl)) cause (Appends-nil (takes before)) (omega arith) told
 
 -- the extents of a sound file are said
@@ -97,11 +98,11 @@ extents_said nodes gaps end owned said old mid new taken now faults later result
 
 -- the linter found a broken rule
 pub fault_said : (old new : DeviceState) (O : Type 0) (takes : O → Option (List ℕ)) (counts : O → ℕ) (rule place : ℕ) (result : Report) (before after : O)
-    → Told old.held (λ image. FirstFault image (record { rule = rule; place = place }))
+    → IsRule rule → Told old.held (λ image. FirstFault image (record { rule = rule; place = place }))
     → Ends ended.Broken (fault_line rule place) result (takes before) (takes after) (counts before) (counts after) ⊎ ((result ≡ ended.Memory) × (after ≡ before))
     → Says (Mapped old new) (takes before) (takes after) (counts before) (counts after) result
-fault_said old new O takes counts rule place result before after is told =
-    ends_or_lacks (Mapped old new) O takes counts ended.Broken (fault_line rule place) result before after (Mapped.broken rule place is) (Mapped.lacking (λ image held. inl refl)) told
+fault_said old new O takes counts rule place result before after rules is told =
+    ends_or_lacks (Mapped old new) O takes counts ended.Broken (fault_line rule place) result before after (Mapped.broken rule place rules is) (Mapped.lacking (λ image held. inl refl)) told
 
 -- no memory before the first line
 pub lacks_at_once : (old new : DeviceState) (taken : Option (List ℕ)) (faults : ℕ) → Says (Mapped old new) taken taken faults faults ended.Memory

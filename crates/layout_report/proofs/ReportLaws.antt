@@ -4,6 +4,7 @@ use Rattle.std.specs.Io.KnownBytes.{Appends}
 use Rattle.std.proofs.KnownBytes.{Appends-nil, Appends-trans}
 use Rattle.cg_io.specs.Cause.{Rose}
 use Rattle.session.specs.Printed.{AppendsPart}
+use Rattle.adf_format.specs.RuleNumbers.{IsRule}
 use Rattle.adf_model.specs.declared.error.AdfError.{AdfError}
 use Rattle.adf_model.specs.declared.error.AdfError.TheVariants as error
 use Rattle.layout_lint.specs.Owners.{MayRefuse, IsNoLayout}
@@ -53,13 +54,13 @@ said_as said other taken now faults later _ implies (torn report text is rose pa
 
 -- what is said of a refusal, behind the lines that were taken before
 pub refuses_behind : (said : Report → List ℕ → Type 0) (O : Type 0) (takes : O → Option (List ℕ)) (counts : O → ℕ) (given : AdfError) (lines : List ℕ) (result : Report) (start : Option (List ℕ)) (first : ℕ) (old new : O) (before after : ℕ)
-    → ((rule place : ℕ) → given ≡ error.Layout rule place → said ended.Broken (lines ++ fault_line rule place))
+    → ((rule place : ℕ) → IsRule rule → given ≡ error.Layout rule place → said ended.Broken (lines ++ fault_line rule place))
     → (Rose before after → said ended.DeviceFault (lines ++ read_fault_line)) → said ended.Memory lines
     → MayRefuse before after given → Appends start (takes old) lines → first ≤ counts old
     → Refuses given result (takes old) (takes new) (counts old) (counts new) ⊎ ((result ≡ ended.Memory) × (new ≡ old))
     → Says said start (takes new) first (counts new) result
 refuses_behind said O takes counts given lines result start first old new before after broken failed lacking cause front rises (inr silent) = ends_silent said ended.Memory lines result start (takes old) (takes new) first (counts new) lacking front (ap takes silent.1) silent.0
-refuses_behind said O takes counts (error.Layout rule place) lines result start first old new before after broken failed lacking cause front rises (inl told) = ends_behind said ended.Broken lines (fault_line rule place) result start (takes old) (takes new) first (counts old) (counts new) (broken rule place refl) front rises told
+refuses_behind said O takes counts (error.Layout rule place) lines result start first old new before after broken failed lacking cause front rises (inl told) = ends_behind said ended.Broken lines (fault_line rule place) result start (takes old) (takes new) first (counts old) (counts new) (broken rule place cause refl) front rises told
 refuses_behind said O takes counts error.Memory lines result start first old new before after broken failed lacking cause front rises (inl told) = absurd told
 refuses_behind said O takes counts error.ReadFault lines result start first old new before after broken failed lacking cause front rises (inl told) = ends_behind said ended.DeviceFault lines read_fault_line result start (takes old) (takes new) first (counts old) (counts new) (failed cause) front rises told
 refuses_behind said O takes counts _ lines result start first old new before after broken failed lacking cause front rises (inl told) = absurd cause

@@ -4,6 +4,7 @@ use Rattle.std.specs.Io.KnownBytes.{Appends}
 use Rattle.cg_io.specs.Cause.{Rose}
 use Rattle.cg_io.specs.Device.{DeviceState}
 use Rattle.session.specs.Printed.{AppendsPart}
+use Rattle.adf_format.specs.RuleNumbers.{IsRule}
 use Rattle.adf_format.specs.Tree.{Tree, IsNumbered}
 use Rattle.adf_format.specs.Placement.{Placement}
 use Rattle.adf_format.specs.LaysOut.{LaysOut}
@@ -22,7 +23,7 @@ use Rattle.layout_lint.specs.declared.verdict.Verdict.TheVariants as says
 use Rattle.layout_lint.specs.Told.{Told}
 use Rattle.layout_lint.specs.Owners.{IsThere, OwnsAll}
 use Rattle.layout_lint.specs.Paths.{IsPath}
-use Rattle.layout_lint.specs.Verdicts.{IsVerdict}
+use Rattle.layout_lint.specs.Verdicts.{IsVerdict, NamesRule}
 use Rattle.layout_report.specs.Lines.{verdict_line, fault_line, extent_line, part_line, end_line}
 use Rattle.layout_report.specs.declared.Report.{Report}
 use Rattle.layout_report.specs.declared.Report.TheVariants as ended
@@ -44,7 +45,7 @@ verdict_report (says.Unsound rule place) = ended.Broken
 
 -- What `lint` answers of a file: its verdict, or that a read failed, or nothing for want of memory.
 pub data Linted (old new : DeviceState) : Report → List ℕ → Type 0 where
-  said : (verdict : Verdict) → Told old.held (λ image. IsVerdict image verdict) → Linted old new (verdict_report verdict) (verdict_line verdict)
+  said : (verdict : Verdict) → NamesRule verdict → Told old.held (λ image. IsVerdict image verdict) → Linted old new (verdict_report verdict) (verdict_line verdict)
   failed : Rose old.faults new.faults → Linted old new ended.DeviceFault read_fault_line
   lacking : Linted old new ended.Memory []
 
@@ -96,8 +97,8 @@ StartsMap image lines = (lines ≡ []) ⊎ BeginsMap image lines
 -- which comes only where the device tells no bytes; or the first lines of its map and that a read failed, or these alone for want of memory.
 pub data Mapped (old new : DeviceState) : Report → List ℕ → Type 0 where
   whole : {text : List ℕ} → Told old.held (λ image. IsMap image text) → Mapped old new ended.Done text
-  broken : (rule place : ℕ) → Told old.held (λ image. FirstFault image (record { rule = rule; place = place })) → Mapped old new ended.Broken (fault_line rule place)
-  changed : (lines : List ℕ) (rule place : ℕ) → Told old.held (λ image. ⊥) → Mapped old new ended.Broken (lines ++ fault_line rule place)
+  broken : (rule place : ℕ) → IsRule rule → Told old.held (λ image. FirstFault image (record { rule = rule; place = place })) → Mapped old new ended.Broken (fault_line rule place)
+  changed : (lines : List ℕ) (rule place : ℕ) → IsRule rule → Told old.held (λ image. ⊥) → Mapped old new ended.Broken (lines ++ fault_line rule place)
   failed : (lines : List ℕ) → Rose old.faults new.faults → Told old.held (λ image. StartsMap image lines) → Mapped old new ended.DeviceFault (lines ++ read_fault_line)
   lacking : {lines : List ℕ} → Told old.held (λ image. StartsMap image lines) → Mapped old new ended.Memory lines
 
@@ -115,7 +116,7 @@ TellsLines nodes owned some lines image = (gaps : List Extent) (end : ℕ) (form
 -- What is said of some extents of a file: the lines of all of them and of the last byte; or the first lines and why no more.
 pub data Listed (nodes : List code.NodePlace) (owned : List Owned) (end : ℕ) (old new : DeviceState) : Report → List ℕ → Type 0 where
   whole : (lines : List ℕ) → Told old.held (TellsLines nodes owned owned lines) → Listed nodes owned end old new ended.Done (lines ++ end_line end)
-  changed : (lines : List ℕ) (rule place : ℕ) → Told old.held (λ image. (gaps : List Extent) (end : ℕ) (format : Format) (wide : Bool) → IsLaidOutAs image (map node_place nodes) gaps end format wide → ⊥)
+  changed : (lines : List ℕ) (rule place : ℕ) → IsRule rule → Told old.held (λ image. (gaps : List Extent) (end : ℕ) (format : Format) (wide : Bool) → IsLaidOutAs image (map node_place nodes) gaps end format wide → ⊥)
       → Listed nodes owned end old new ended.Broken (lines ++ fault_line rule place)
   failed : (k : ℕ) (lines : List ℕ) → Rose old.faults new.faults → Told old.held (TellsLines nodes owned (take k owned) lines) → Listed nodes owned end old new ended.DeviceFault (lines ++ read_fault_line)
   lacking : (k : ℕ) {lines : List ℕ} → Told old.held (TellsLines nodes owned (take k owned) lines) → Listed nodes owned end old new ended.Memory lines

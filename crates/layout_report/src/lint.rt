@@ -3,7 +3,7 @@
 ghost use Rattle.std.specs.Prelude.{◌≡◌, ◌⊎◌, IfOk, IfErr};
 ghost use Rattle.layout_lint.specs.Owners.{OnlyReads};
 ghost use Rattle.layout_lint.specs.Told.{Told};
-ghost use Rattle.layout_lint.specs.Verdicts.{IsVerdict, MayFail};
+ghost use Rattle.layout_lint.specs.Verdicts.{IsVerdict, NamesRule, MayFail};
 ghost use Rattle.layout_report.specs.Lines.{verdict_line};
 ghost use Rattle.layout_report.specs.Reports.{Ends, Linted, Says, verdict_report};
 
@@ -22,6 +22,7 @@ pub const KEPT_BLOCKS: usize = 256;
 // The verdict on the file of a device, which is given back.
 fn verdict_on<D: Device>(alloc: Global, device: D) -> (D, Result<Verdict, AdfError>)
     ensures verdict { IfOk result.1 (λ verdict. Told (D.state device).held (λ image. IsVerdict image verdict)) }
+    ensures rule { IfOk result.1 NamesRule }
     ensures cause { IfErr result.1 (MayFail (D.state device).faults (D.state result.0).faults) }
     ensures effect { OnlyReads (D.state device) (D.state result.0) }
 {

@@ -1,5 +1,6 @@
 use Rattle.std.proofs.Common.{◌∙◌}
 use Rattle.layout_lint.proofs.VerdictLaws.{free_table_kept, node_fault, list_fault, used_found, tiling_fault, sound_verdict}
+use Rattle.layout_lint.proofs.ShapeLaws.{shape_said}
 use Rattle.layout_lint.proofs.examine.look_behind_head.Goals as goal
 
 pub returns-in-Err-clause-broken : goal.returns-in-Err-clause-broken
@@ -27,3 +28,7 @@ returns-clause-laid_out g c = λ image told is.
     rw (c.new.ensures, c.new-2.ensures)
     (sound_verdict image c.args.head.now is c.in-Ok.found f frees.0 frees.1 c.in-Ok-look_at_lists.all.items frees.2 c.in-Ok-look_at_tiling.gaps.items
     (c.in-Ok-look_at_tiling.ensures.tiled image (c.in-Ok-look_at_lists.ensures.effect.held ∙ told_then) is.span.inside))
+
+pub returns-clause-shape : goal.returns-clause-shape
+returns-clause-shape g c = rw (c.new.ensures, c.new-2.ensures)
+    (shape_said c.args.head.now.span.wide c.args.head.now.span.end c.in-Ok.found c.in-Ok-look_at_lists.all.items c.in-Ok-look_at_tiling.gaps.items c.in-Ok.ensures.whole c.requires.end c.in-Ok-look_at_lists.ensures.adds c.in-Ok-look_at_tiling.ensures.set)

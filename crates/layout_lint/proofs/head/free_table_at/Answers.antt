@@ -2,6 +2,7 @@ use Rattle.std.proofs.Common.{◌≡◌, ◌+◌, subst, None, Some}
 use Rattle.adf_format.specs.Checks.{first_broken}
 use Rattle.adf_format.specs.FirstFault.{free_table_rows}
 use Rattle.layout_lint.proofs.HeadLaws.{free_kept, free_broken}
+use Rattle.layout_lint.proofs.RuleLaws.{free_table_rule}
 use Rattle.layout_lint.proofs.head.free_table_at.Goals as goal
 
 pub returns-in-Ok-decode_free-clause-rows : goal.returns-in-Ok-decode_free-clause-rows
@@ -12,3 +13,6 @@ pub returns-in-Err-decode_free-clause-rows : goal.returns-in-Err-decode_free-cla
 returns-in-Err-decode_free-clause-rows g c = λ image told long.
     rw (c.halt_at.ensures, c.from.ensures) (subst (λ bytes. first_broken (free_table_rows 186 bytes) ≡ Some (record { rule = c.in-Err-decode_free.bad.rule; place = 186 + c.in-Err-decode_free.bad.offset }))
     (c.in-Ok.ensures.told image told long) (free_broken c.in-Ok.bytes c.in-Err-decode_free.bad c.in-Err-decode_free.ensures.bad))
+
+pub returns-in-Err-decode_free-clause-cause : goal.returns-in-Err-decode_free-clause-cause
+returns-in-Err-decode_free-clause-cause g c = rw c.halt_at.ensures (free_table_rule 0 _ _ c.in-Err-decode_free.ensures.bad)

@@ -1,6 +1,7 @@
 use Rattle.std.proofs.Common.{◌∙◌, sym, ap}
 use Rattle.adf_format.specs.FirstFault.{has_room}
 use Rattle.layout_lint.proofs.FreeLaws.{breaks_known, breaks_bytes, breaks_free_room, breaks_free_last, keeps_free}
+use Rattle.layout_lint.proofs.ShapeLaws.{adds_more}
 use Rattle.layout_lint.proofs.lists.look_at_free.Goals as goal
 
 pub returns-then-contains-clause-rows : goal.returns-then-contains-clause-rows
@@ -27,3 +28,6 @@ returns-in-Ok-keep-clause-rows g c = λ image told number long is.
     keeps_free image c.args.span.end _ c.args.frees.now.used number c.args.at (sym c.contains.ensures ∙ c.if-contains.false) (c.in-Ok.ensures.rows image told long)
     (ap (has_room c.args.span.end c.args.frees.now.used) (sym (c.in-Ok.ensures.length image told long)) ∙ sym c.has_room.ensures ∙ c.if-not-has_room.false)
     c.args.list c.in-Ok.chunk.next is (c.in-Ok.ensures.next image told long) (sym c.agrees.ensures ∙ c.if-not-agrees.false)
+
+pub returns-in-Ok-keep-clause-adds : goal.returns-in-Ok-keep-clause-adds
+returns-in-Ok-keep-clause-adds g c = adds_more _ _ _ c.in-Ok-keep.ensures.extents

@@ -1,5 +1,6 @@
 use Rattle.std.proofs.Common.{◌∙◌, arith}
 use Rattle.layout_lint.proofs.ReadLaws.{reads_then}
+use Rattle.layout_lint.proofs.ShapeLaws.{adds_then}
 use Rattle.layout_lint.proofs.ListLaws.{come_on, come_to_fault}
 use Rattle.layout_lint.proofs.lists.look_at_list.Goals as goal
 
@@ -11,6 +12,7 @@ loop-next-preserved g c = record {
   room = c.in-Ok.ensures.room;
   bound = c.in-Ok.ensures.bound;
   solid = λ solid. c.in-Ok.ensures.solid (c.loop-next.invariant.solid solid);
+  adds = adds_then _ _ _ c.loop-next.invariant.adds c.in-Ok.ensures.adds;
   come = λ image told nodes base number later span list begun.
       let told_now = c.loop-next.invariant.effect.held ∙ told in
       let inside = span.inside in

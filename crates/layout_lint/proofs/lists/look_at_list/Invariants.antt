@@ -6,6 +6,7 @@ use Rattle.adf_format.specs.declared.types.Extent.{Extent}
 use Rattle.adf_format.specs.FirstFault.{Visit, FreeVisit}
 use Rattle.layout_lint.specs.Told.{Told, IsReady}
 use Rattle.layout_lint.specs.Gaps.{IsSolid}
+use Rattle.layout_lint.specs.Shapes.{Adds}
 use Rattle.layout_lint.specs.Heads.{IsSpan}
 use Rattle.layout_lint.specs.Lists.{IsListAt, HasCome, first_of}
 use Rattle.layout_lint.proofs.lists.look_at_list.Given as goal
@@ -18,6 +19,7 @@ invariant-loop-next g l = record {
   room : l.frees.used ≤ l.span.end + 1;
   bound : IfSome l.next (λ place. place < 2 ^ 44);
   solid : All (IsSolid l.span.end) l.initial.frees.extents.items → All (IsSolid l.span.end) l.frees.extents.items;
+  adds : Adds l.initial.frees.extents.items l.frees.extents.items;
   come : Told (g.B.Blocks.state l.initial.blocks).held (λ image. (nodes : List Visit) (base : List Extent) (number : ℕ) (later : List FreeVisit) → IsSpan image l.span → IsListAt image number l.list
       → HasCome image nodes base number (first_of l.list) later l.initial.frees → HasCome image nodes base number l.next later l.frees);
 }

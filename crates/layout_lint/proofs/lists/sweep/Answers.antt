@@ -1,6 +1,7 @@
 use Rattle.std.proofs.Common.{◌∙◌}
 use Rattle.std.proofs.lemmas.Result.{on_ok_weaker, IfErr-weaker}
 use Rattle.layout_lint.proofs.FreeTableLaws.{small_at, medium_at, large_at, to_small, to_medium, to_large}
+use Rattle.layout_lint.proofs.ShapeLaws.{adds_then}
 use Rattle.layout_lint.proofs.lists.sweep.Goals as goal
 
 pub returns-in-Err-clause-stops : goal.returns-in-Err-clause-stops
@@ -28,3 +29,6 @@ returns-clause-stops g c = IfErr-weaker c.look_at_list-3.result _ _ (λ h last. 
 
 pub returns-clause-solid : goal.returns-clause-solid
 returns-clause-solid g c = on_ok_weaker c.look_at_list-3.result (λ last. λ solid. last (c.in-Ok-look_at_list.ensures.solid (c.in-Ok.ensures.solid solid))) c.look_at_list-3.ensures.solid
+
+pub returns-clause-adds : goal.returns-clause-adds
+returns-clause-adds g c = on_ok_weaker c.look_at_list-3.result (λ last. adds_then _ _ _ (adds_then _ _ _ c.in-Ok.ensures.adds c.in-Ok-look_at_list.ensures.adds) last) c.look_at_list-3.ensures.adds

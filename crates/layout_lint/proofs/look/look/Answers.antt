@@ -1,5 +1,6 @@
 use Rattle.std.proofs.Common.{◌+◌, ◌∙◌, ap, sym, refl}
 use Rattle.layout_lint.proofs.LookLaws.{header_is, breaks_header, breaks_count, breaks_children, breaks_data, keeps_node, leads_there, extents_added, solid_node, solid_table}
+use Rattle.layout_lint.proofs.ShapeLaws.{node_added, adds_then, adds_more}
 use Rattle.layout_lint.proofs.look.look.Goals as goal
 
 pub returns-in-Err-clause-rows : goal.returns-in-Err-clause-rows
@@ -60,3 +61,8 @@ returns-in-Ok-look_at_data-clause-solid g c =
     c.in-Ok-look_at_data.ensures.solid
     (solid_table c.args.span.end _ c.in-Ok.header.entries c.add_extent.new.extents.items c.look_at_children.new.extents.items c.in-Ok-look_at_children.ensures.fits c.in-Ok-look_at_children.ensures.extents
     (solid_node c.args.span.end c.args.met.now.place c.node_length-length.result c.args.span.wide c.args.extents.now.items c.add_extent.new.extents.items c.node_length-length.ensures c.in-Ok.ensures.fits.1 c.in-Ok-add_extent.ensures.added c.requires.solid))
+
+pub returns-in-Ok-look_at_data-clause-adds : goal.returns-in-Ok-look_at_data-clause-adds
+returns-in-Ok-look_at_data-clause-adds g c =
+    node_added c.args.span.wide c.args.met.now.place c.node_length-length.result _ _ _ c.node_length-length.ensures c.in-Ok-add_extent.ensures.added
+    (adds_then _ _ _ (adds_more _ _ _ c.in-Ok-look_at_children.ensures.extents) c.in-Ok-look_at_data.ensures.adds)

@@ -3,6 +3,7 @@ use Rattle.std.proofs.lemmas.List.Elements.{All-same}
 use Rattle.adf_format.specs.FirstFault.{payload_total}
 use Rattle.layout_lint.specs.Chunks.{IsChunk, data_extent}
 use Rattle.layout_lint.proofs.DataLaws.{visits_are, breaks_list, breaks_chunks, breaks_contents, keeps_data, used_said, extents_said, put_behind, all_solid}
+use Rattle.layout_lint.proofs.ShapeLaws.{adds_then, adds_more}
 use Rattle.layout_lint.proofs.look.look_at_data.Goals as goal
 
 pub returns-in-Err-clause-rows : goal.returns-in-Err-clause-rows
@@ -53,3 +54,6 @@ returns-in-Err-look_at_contents-clause-rows g c = λ image told long is.
     breaks_contents image c.args.span.wide c.args.span.end c.args.used c.args.place c.place_of.result c.args.header.now is c.place_of.ensures.value c.in-Ok.behind c.in-Ok.ensures.used c.in-Err-look_at_contents.halt
     (c.in-Ok.ensures.rows image told long) (c.in-Ok-look_at_chunks.ensures.rows image told_then long)
     (c.in-Err-look_at_contents.ensures.rows image told_last long is (parts ∙ ap (map (data_extent image)) visits) (c.in-Ok-look_at_chunks.ensures.payload image told_then long ∙ ap (payload_total image) visits))
+
+pub returns-in-Ok-look_at_contents-clause-adds : goal.returns-in-Ok-look_at_contents-clause-adds
+returns-in-Ok-look_at_contents-clause-adds g c = adds_then _ _ _ (adds_more _ _ _ c.in-Ok.ensures.extents) (adds_more _ _ _ c.in-Ok-look_at_chunks.ensures.added.added)

@@ -1,6 +1,7 @@
 use Rattle.std.proofs.Common.{◌∙◌, refl, ap, map, arith}
 use Rattle.layout_lint.specs.Walks.{waiting_of}
 use Rattle.layout_lint.proofs.SearchLaws.{goes_on, breaks}
+use Rattle.layout_lint.proofs.ShapeLaws.{steady_then}
 use Rattle.layout_lint.proofs.walk.turn.Goals as goal
 
 pub returns-in-Err-clause-stops : goal.returns-in-Err-clause-stops
@@ -16,3 +17,10 @@ returns-clause-goes_on g c = λ image told long wide end search.
     ∙ c.in-Ok-push_children.ensures.put image (c.look.ensures.effect.held ∙ told) (λ some. let w = c.in-Ok.ensures.next.within some in omega (arith, w)))
     c.in-Ok-keep.ensures.kept.nodes c.in-Ok-keep.ensures.kept.places
     (ap (λ es. es.items) c.in-Ok-keep.ensures.kept.extents ∙ c.in-Ok.ensures.extents image told long) refl
+
+pub returns-clause-steady : goal.returns-clause-steady
+returns-clause-steady g c =
+    let steady = c.requires.steady in
+    let kept = c.in-Ok-keep.ensures.kept in
+    steady_then c.args.span.wide c.args.span.end c.args.search.now _ c.pop.new.self.items _ _ c.in-Some.met (record { number = c.len.result; depth = c.in-Some.met.depth; table = c.in-Ok.next.table; children = c.in-Ok.next.children }) steady c.in-Some.ensures.items
+    kept.nodes (ap (λ es. es.items) kept.extents) (ap (λ v. v.items) kept.stack) c.in-Ok.ensures.inside c.in-Ok.ensures.adds (c.len.ensures ∙ c.args.search.now.nodes.ok.0) refl c.in-Ok-push_children.ensures.adds
