@@ -219,6 +219,3 @@ pub fn written_again()
     ensures entry { EntryIsWrittenAgain }
     ensures chunk_entry { ChunkEntryIsWrittenAgain }
 {}
-
-#[cfg(test)]
-mod tests;
