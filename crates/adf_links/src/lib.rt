@@ -10,6 +10,3 @@ mod paths;
 
 pub use links::{LONGEST_LINK, join_link, parts_of_joined, split_link};
 pub use paths::components;
-
-#[cfg(test)]
-mod tests;

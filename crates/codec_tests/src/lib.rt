@@ -6,6 +6,8 @@
 #[cfg(test)]
 mod chunks;
 #[cfg(test)]
+mod links;
+#[cfg(test)]
 mod pointers;
 #[cfg(test)]
 mod records;
