@@ -29,6 +29,3 @@ pub use error::{AdfError, EditError};
 pub use lists::{Children, Edits, Numbers, PathRange, Ranges, Rules, Run, Runs, Serials, Text};
 pub use spelling::spell;
 pub use tree::{Child, Edit, NodeId, Query, Reply, Selection, Shape};
-
-#[cfg(test)]
-mod tests;

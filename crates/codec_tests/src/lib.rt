@@ -8,6 +8,8 @@ mod chunks;
 #[cfg(test)]
 mod links;
 #[cfg(test)]
+mod model;
+#[cfg(test)]
 mod pointers;
 #[cfg(test)]
 mod records;
