@@ -43,20 +43,3 @@ impl<T> Listing<T> {
         self.items
     }
 }
-
-#[cfg(test)]
-mod tests {
-    use super::*;
-    use std::test::Fail;
-
-    #[test]
-    fn keeps_its_items_in_order(rt: HostRuntime) -> Result<(), Fail> {
-        let listing = Listing::new([3u8, 1, 2].to_vec(rt.alloc())?);
-        assert_eq!(rt; listing.items(), [3, 1, 2].as_slice());
-        assert_eq!(rt; listing.into_items().as_slice(), [3, 1, 2].as_slice());
-        let empty: Listing<u8> = Listing::new(Vec::new(rt.alloc()));
-        assert_eq!(rt; empty.items().len(), 0);
-        assert_eq!(rt; empty.into_items().len(), 0);
-        Ok(())
-    }
-}

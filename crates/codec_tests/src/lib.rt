@@ -6,6 +6,8 @@
 #[cfg(test)]
 mod chunks;
 #[cfg(test)]
+mod format;
+#[cfg(test)]
 mod links;
 #[cfg(test)]
 mod model;
