@@ -15,3 +15,5 @@ mod model;
 mod pointers;
 #[cfg(test)]
 mod records;
+#[cfg(test)]
+mod selections;

@@ -7,6 +7,3 @@ mod rows;
 mod selected;
 
 pub use selected::{one_list_of_runs, runs};
-
-#[cfg(test)]
-mod tests;
