@@ -8,6 +8,8 @@ mod chunks;
 #[cfg(test)]
 mod format;
 #[cfg(test)]
+mod layouts;
+#[cfg(test)]
 mod links;
 #[cfg(test)]
 mod model;

@@ -5,5 +5,3 @@
 
 pub mod laws;
 pub mod passes;
-#[cfg(test)]
-mod tests;

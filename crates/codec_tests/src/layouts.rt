@@ -1,4 +1,6 @@
-use crate::{laws, passes};
+//! The laws of layouts and of passes over an image.
+
+use layout_laws::{laws, passes};
 
 #[test]
 fn laws_are_calls() {
