@@ -4,10 +4,9 @@ use Rattle.std.specs.Prelude.{unwrap_or}
 use Rattle.std.proofs.lemmas.Bool.{cases_eq, cases_lt}
 use Rattle.std.proofs.lemmas.Bool.Decides.{eqb_tells}
 use Rattle.std.proofs.lemmas.List.{get_or-take, get_or-drop}
-use Rattle.std.proofs.lemmas.Grind.{same_number_lists}
-use Rattle.cg_io.specs.Device.{bytes_at, overwritten, Gives, GivesAt}
+use Rattle.cg_io.specs.Device.{bytes_at, overwritten, Gives}
 use Rattle.cg_io.specs.Blocks.{Both, Wrote}
-use Rattle.cg_io.proofs.Places.{length-bytes_at, get_or-bytes_at, overwritten-within}
+use Rattle.cg_io.proofs.Places.{get_or-bytes_at, overwritten-within}
 use Rattle.cg_io.proofs.BlockLemmas.{overwritten-outside}
 use Rattle.block_draft.specs.Changes.{with_changes, image_of, block_in, reach, AreChanges, Puts, ChangesOnly}
 use Rattle.block_draft.proofs.Image.{image_block, length-image, found_within}
@@ -113,21 +112,3 @@ write_step None (Some b) im2 p d c at from piece some fits is place first then =
 write_step (Some a) None im2 p d c at from piece some fits is place first then = absurd first
 write_step (Some a) (Some b) None p d c at from piece some fits is place first then = absurd then
 write_step (Some a) (Some b) (Some z) p d c at from piece some fits is place first then = wrote_then p d c from piece a b z some fits is first (subst (λ i. Wrote i piece b z) place then)
-
--- one more piece is read
-pub read_step : (im : Option (List ℕ)) (p d c n start : ℕ) (into block part new : List ℕ) → IfSome im (λ bytes. (k : ℕ) → k < d → get_or into k 0 ≡ get_or bytes (p + k) 0) → Gives im n block
-    → n * 4096 + start ≡ p + d → start + c ≤ 4096 → length block ≡ 4096 → part ≡ take (start + c - start) (drop start block) → new ≡ overwritten into d part → IfSome im (λ bytes. (k : ℕ) → k < d + c → get_or new k 0 ≡ get_or bytes (p + k) 0)
-read_step None p d c n start into block part new taken gives place fits size is after = tt
-read_step (Some bytes) p d c n start into block part new taken gives place fits size is after = λ k lt. ap (λ (l : List ℕ). get_or l k 0) after ∙ elim (cases_lt k d) [
-  | inl before ↦ overwritten-outside into d part k (inl before) ∙ taken k before
-  | inr past ↦ overwritten-within into d part k past (omega (arith, lt, long)) ∙ ap (λ (l : List ℕ). get_or l (k - d) 0) is ∙ get_or-take (start + c - start) (drop start block) (k - d) 0 (omega arith)
-      ∙ get_or-drop start block (k - d) 0 ∙ ap (λ (l : List ℕ). get_or l (start + (k - d)) 0) gives ∙ get_or-bytes_at bytes (n * 4096) 4096 (start + (k - d)) (omega arith) ∙ ap (λ i. get_or bytes i 0) (omega arith)
-]
-  where
-    long : length part ≡ c
-    long = ap length is ∙ omega (arith, length-take (start + c - start) (drop start block), length-drop start block)
-
--- all of it is read
-pub read_whole : (im : Option (List ℕ)) (p : ℕ) (into : List ℕ) → IfSome im (λ bytes. (k : ℕ) → k < length into → get_or into k 0 ≡ get_or bytes (p + k) 0) → GivesAt im p into
-read_whole None p into taken = tt
-read_whole (Some bytes) p into taken = same_number_lists _ _ (sym (length-bytes_at bytes p (length into))) (λ k lt. taken k lt ∙ sym (get_or-bytes_at bytes p (length into) k lt))

@@ -1,5 +1,7 @@
 -- What a draft is made of.
-use Rattle.std.specs.Prelude.{ℕ, List, length}
+use Rattle.std.specs.Prelude.{ℕ, List, length, Option}
+use Rattle.cg_io.specs.Device.{DeviceState}
+use Rattle.block_draft.specs.Changes.{image_of}
 use Rattle.block_draft.specs.declared.draft.Draft.{Draft}
 
 -- the blocks below a draft
@@ -13,3 +15,14 @@ changes_in draft = draft.changed
 -- how many of them there are, which wait for a commit
 abbrev pub waiting_in : {B : Type 0} → Draft B → ℕ
 waiting_in draft = length (changes_in draft)
+
+-- what holds of the blocks below, and the device below them
+abbrev pub is_sound_below : {B : Type 0} → (B → Type 0) → Draft B → Type 0
+is_sound_below is_sound draft = is_sound (blocks_below draft)
+
+abbrev pub state_below : {B : Type 0} → (B → DeviceState) → Draft B → DeviceState
+state_below state draft = state (blocks_below draft)
+
+-- the bytes that it shows: those of the device, with the changed blocks over them
+abbrev pub shown_in : {B : Type 0} → (B → DeviceState) → Draft B → Option (List ℕ)
+shown_in state draft = image_of (state_below state draft).held (changes_in draft)

@@ -130,12 +130,3 @@ pub(crate) fn patch(block: &mut [u8; 4096], start: usize, from: &[u8])
 {
     block[start..start + from.len()].copy_from_slice(from);
 }
-
-/// Writes over a part of a slice.
-#[tactic(auto, unfolding(cg_io::specs::Device::padded, cg_io::specs::Device::overwritten))]
-pub(crate) fn patch_slice(into: &mut [u8], start: usize, from: &[u8])
-    requires { start + length from.now ≤ length into.old }
-    ensures { into.new ≡ overwritten into.old start from.now }
-{
-    into[start..start + from.len()].copy_from_slice(from);
-}

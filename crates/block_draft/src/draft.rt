@@ -4,10 +4,11 @@ ghost use Rattle.cg_io.specs.Cause.{HasCause, Rose};
 ghost use Rattle.cg_io.specs.Device.{Gives, GivesAt};
 ghost use Rattle.cg_io.specs.Blocks.{ReadsFew, blocks_of, Both, Wrote, KeepsOutside};
 ghost use Rattle.block_draft.specs.Changes.{image_of, raised_by, IsPartWritten, AreChanges, ChangesOnly, ChangesWithin};
-ghost use Rattle.block_draft.specs.Draft.{blocks_below, changes_in, waiting_in};
+ghost use Rattle.block_draft.specs.Draft.{blocks_below, changes_in, waiting_in, shown_in, state_below, is_sound_below};
+ghost use Rattle.cg_io.specs.Answers.{AnswersRead, HasRisen};
 
-use crate::changes::{Block, Changes, patch, patch_slice};
-use cg_io::{BlockFault, Blocks, Space, SpaceFault};
+use crate::changes::{Block, Changes, patch};
+use cg_io::{BlockFault, Blocks, ReadBytes, ReadFault, Space, SpaceFault, overwrite};
 use std::alloc::Global;
 use std::collections::BTreeMap;
 
@@ -26,7 +27,7 @@ impl<B: Blocks> Draft<B> {
     pub fn new(alloc: Global, blocks: B) -> Draft<B>
         ensures blocks { blocks_below result ≡ blocks }
         ensures empty { changes_in result ≡ [] }
-        ensures image { image_of (B.state (blocks_below result)).held (changes_in result) ≡ (B.state blocks).held }
+        ensures image { shown_in B.state result ≡ (B.state blocks).held }
     {
         Draft {
             blocks,
@@ -53,7 +54,7 @@ impl<B: Blocks> Draft<B> {
     pub fn abandon(&mut self)
         ensures blocks { blocks_below self.new ≡ blocks_below self.old }
         ensures empty { changes_in self.new ≡ [] }
-        ensures image { image_of (B.state (blocks_below self.new)).held (changes_in self.new) ≡ (B.state (blocks_below self.old)).held }
+        ensures image { shown_in B.state self.new ≡ (B.state (blocks_below self.old)).held }
     {
         self.changed.clear();
     }
@@ -66,7 +67,7 @@ impl<B: Blocks> Draft<B> {
     pub fn commit(&mut self) -> Result<(), BlockFault>
         requires { B.is_sound (blocks_below self.old) }
         ensures sound { B.is_sound (blocks_below self.new) }
-        ensures written { OnOk result ((B.state (blocks_below self.new)).held ≡ image_of (B.state (blocks_below self.old)).held (changes_in self.old)) }
+        ensures written { OnOk result ((B.state (blocks_below self.new)).held ≡ shown_in B.state self.old) }
         ensures count { OnOk result ((B.state (blocks_below self.new)).writes ≡ raised_by (length (changes_in self.old)) (B.state (blocks_below self.old)).writes) }
         ensures torn { OnErr result (IsPartWritten (B.state (blocks_below self.old)).held (B.state (blocks_below self.old)).writes (changes_in self.old) (B.state (blocks_below self.new)).held (B.state (blocks_below self.new)).writes) }
         ensures ascend { AreChanges (changes_in self.old) }
@@ -168,26 +169,21 @@ impl<B: Blocks> Draft<B> {
 }
 
 // Each method has the clauses of the trait, and then those on the changed blocks.
-impl<B: Blocks> Space for Draft<B> {
-    ghost image = { λ d. image_of (B.state d.blocks).held d.changed };
+impl<B: Blocks> ReadBytes for Draft<B> {
+    ghost image = { λ d. shown_in B.state d };
 
-    ghost state = { λ d. B.state d.blocks };
+    ghost state = { λ d. state_below B.state d };
 
-    ghost is_sound = { λ d. B.is_sound d.blocks };
+    ghost is_sound = { λ d. is_sound_below B.is_sound d };
 
-    ghost waiting = { λ d. length d.changed };
+    ghost waiting = { λ d. waiting_in d };
 
     /// The bytes from a place on, zeros past the end, by at most one read below for each block that the range touches.
-    fn read(&mut self, place: u64, into: &mut [u8]) -> Result<(), SpaceFault>
+    fn read(&mut self, place: u64, into: &mut [u8]) -> Result<(), ReadFault>
         requires sound { B.is_sound (blocks_below self.old) }
         requires within { place + length into.old ≤ 2 ^ 44 }
-        ensures sound { B.is_sound (blocks_below self.new) }
-        ensures told { OnOk result (GivesAt (image_of (B.state (blocks_below self.old)).held (changes_in self.old)) place into.new) }
-        ensures image { image_of (B.state (blocks_below self.new)).held (changes_in self.new) ≡ image_of (B.state (blocks_below self.old)).held (changes_in self.old) }
-        ensures effect { ReadsFew (blocks_of place (length into.old)) (B.state (blocks_below self.old)) (B.state (blocks_below self.new)) }
-        ensures cause { HasCause (B.state (blocks_below self.old)).faults (B.state (blocks_below self.new)).faults result }
-        ensures fault { IfErr result (λ e. e ≡ SpaceFault.Read) }
-        ensures waiting { waiting_in self.new ≡ waiting_in self.old }
+        ensures told { OnOk result (GivesAt (shown_in B.state self.old) place into.new) }
+        ensures reads { AnswersRead (is_sound_below B.is_sound) (shown_in B.state) (state_below B.state) waiting_in (ReadsFew (blocks_of place (length into.old))) HasRisen self.old self.new result }
         ensures changed { changes_in self.new ≡ changes_in self.old }
     {
         let mut block = [0; 4096];
@@ -198,22 +194,25 @@ impl<B: Blocks> Space for Draft<B> {
             let count = (4096 - start).min(into.len() - done);
             match self.load((at / 4096) as u32, &mut block) {
                 Ok(()) => {}
-                Err(_) => return Err(SpaceFault::Read),
+                Err(_) => return Err(ReadFault),
             }
-            patch_slice(into, done, &block[start..start + count]);
+            overwrite(into, done, &block[start..start + count]);
             done += count;
         }
         Ok(())
     }
+}
 
+// Each method has the clauses of the trait, and then those on the changed blocks.
+impl<B: Blocks> Space for Draft<B> {
     /// Writes over the bytes from a place on, in the draft alone. It changes no block but those that the range touches, and
     /// takes the room for them.
     fn write(&mut self, place: u64, from: &[u8]) -> Result<(), SpaceFault>
         requires sound { B.is_sound (blocks_below self.old) }
         requires within { place + length from.now ≤ 2 ^ 44 }
         ensures sound { B.is_sound (blocks_below self.new) }
-        ensures written { OnOk result (Both (Wrote place from.now) (image_of (B.state (blocks_below self.old)).held (changes_in self.old)) (image_of (B.state (blocks_below self.new)).held (changes_in self.new))) }
-        ensures refused { OnErr result (Both (KeepsOutside place (length from.now)) (image_of (B.state (blocks_below self.old)).held (changes_in self.old)) (image_of (B.state (blocks_below self.new)).held (changes_in self.new))) }
+        ensures written { OnOk result (Both (Wrote place from.now) (shown_in B.state self.old) (shown_in B.state self.new)) }
+        ensures refused { OnErr result (Both (KeepsOutside place (length from.now)) (shown_in B.state self.old) (shown_in B.state self.new)) }
         ensures effect { ReadsFew (blocks_of place (length from.now)) (B.state (blocks_below self.old)) (B.state (blocks_below self.new)) }
         ensures cause { IfErr result (λ e. e ≡ SpaceFault.Read → Rose (B.state (blocks_below self.old)).faults (B.state (blocks_below self.new)).faults) }
         ensures waiting { waiting_in self.new ≤ waiting_in self.old + blocks_of place (length from.now) }

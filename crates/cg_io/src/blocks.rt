@@ -1,8 +1,8 @@
-// Blocks over a device, and a space of bytes over blocks.
-ghost use Rattle.std.specs.Prelude.{◌≡◌, ℕ, List, Option, ◌^◌, ◌+◌, ◌≤◌, length, IfOk, IfErr, IfSome, OnOk, OnErr};
-ghost use Rattle.cg_io.specs.Cause.{HasCause, Rose};
-ghost use Rattle.cg_io.specs.Device.{DeviceState, Writes, Gives, GivesAt, with_block, Tears};
-ghost use Rattle.cg_io.specs.Blocks.{ReadsFew, blocks_of, Both, Wrote, KeepsOutside};
+// Blocks over a device.
+ghost use Rattle.std.specs.Prelude.{◌≡◌, ◌^◌, ◌≤◌, length, IfOk, IfErr, IfSome, OnOk, OnErr};
+ghost use Rattle.cg_io.specs.Cause.{HasCause};
+ghost use Rattle.cg_io.specs.Device.{DeviceState, Writes, Gives, with_block, Tears};
+ghost use Rattle.cg_io.specs.Blocks.{ReadsFew};
 
 /// Why a call of blocks failed.
 #[derive(Clone, Copy, Debug, PartialEq, Eq)]
@@ -52,52 +52,4 @@ pub trait Blocks: Drop {
         ensures cause { HasCause (state self.old).faults (state self.new).faults result }
         ensures lost { HasCause (state self.old).lost (state self.new).lost result }
         ensures fault { IfErr result (λ e. e ≡ BlockFault.Write) };
-}
-
-/// Why a call of a space failed.
-#[derive(Clone, Copy, Debug, PartialEq, Eq)]
-pub enum SpaceFault {
-    /// There was no memory to keep what was to be written.
-    Memory,
-    /// The device below could not be read.
-    Read,
-}
-
-/// Bytes by their places, below 2^44, over a device. What is written shows in the space, and not yet in the device.
-pub trait Space: Drop {
-    /// The bytes that it shows, where they are told.
-    ghost image: { Self → Option (List ℕ) };
-
-    /// What the device below holds, and its counts.
-    ghost state: { Self → DeviceState };
-
-    /// What it keeps beside the device agrees with it.
-    ghost is_sound: { Self → Type 0 };
-
-    /// How many blocks wait to be written to the device.
-    ghost waiting: { Self → ℕ };
-
-    /// The bytes from a place on, zeros past the end, by at most one read of the device for each block that the range touches.
-    fn read(&mut self, place: u64, into: &mut [u8]) -> Result<(), SpaceFault>
-        requires sound { is_sound self.old }
-        requires within { place + length into.old ≤ 2 ^ 44 }
-        ensures sound { is_sound self.new }
-        ensures told { OnOk result (GivesAt (image self.old) place into.new) }
-        ensures image { image self.new ≡ image self.old }
-        ensures effect { ReadsFew (blocks_of place (length into.old)) (state self.old) (state self.new) }
-        ensures cause { HasCause (state self.old).faults (state self.new).faults result }
-        ensures fault { IfErr result (λ e. e ≡ SpaceFault.Read) }
-        ensures waiting { waiting self.new ≡ waiting self.old };
-
-    /// Writes over the bytes from a place on, with zeros in a gap before them, and makes as many reads as `read` would. After
-    /// a fault the bytes of the range are any. No block waits anew but those that the range touches.
-    fn write(&mut self, place: u64, from: &[u8]) -> Result<(), SpaceFault>
-        requires sound { is_sound self.old }
-        requires within { place + length from.now ≤ 2 ^ 44 }
-        ensures sound { is_sound self.new }
-        ensures written { OnOk result (Both (Wrote place from.now) (image self.old) (image self.new)) }
-        ensures refused { OnErr result (Both (KeepsOutside place (length from.now)) (image self.old) (image self.new)) }
-        ensures effect { ReadsFew (blocks_of place (length from.now)) (state self.old) (state self.new) }
-        ensures cause { IfErr result (λ e. e ≡ SpaceFault.Read → Rose (state self.old).faults (state self.new).faults) }
-        ensures waiting { waiting self.new ≤ waiting self.old + blocks_of place (length from.now) };
 }

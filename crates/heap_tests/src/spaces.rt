@@ -11,7 +11,7 @@ use adf_chunks::{
 };
 use adf_format::{DataType, Format};
 use adf_records::{FileHeader, FreeTable, NodeHeader, encode_free, encode_header, encode_node};
-use cg_io::{Space, SpaceFault};
+use cg_io::{ReadBytes, ReadFault, Space, SpaceFault};
 use disk_ptr::{DiskPtr, from_place};
 use std::alloc::{AllocError, Global};
 use std::test::Fail;
@@ -79,7 +79,7 @@ impl Bytes {
     }
 }
 
-impl Space for Bytes {
+impl ReadBytes for Bytes {
     ghost use Rattle.std.specs.Prelude.{None};
 
     ghost image = { λ _. None };
@@ -90,10 +90,10 @@ impl Space for Bytes {
 
     ghost waiting = { λ _. 0 };
 
-    fn read(&mut self, place: u64, into: &mut [u8]) -> Result<(), SpaceFault> {
+    fn read(&mut self, place: u64, into: &mut [u8]) -> Result<(), ReadFault> {
         if self.fails() {
             self.faults = self.faults.saturating_add(1);
-            return Err(SpaceFault::Read);
+            return Err(ReadFault);
         }
         let mut at = place as usize;
         for b in into.iter_mut() {
@@ -102,7 +102,9 @@ impl Space for Bytes {
         }
         Ok(())
     }
+}
 
+impl Space for Bytes {
     fn write(&mut self, place: u64, from: &[u8]) -> Result<(), SpaceFault> {
         if self.fails() {
             if self.memory {

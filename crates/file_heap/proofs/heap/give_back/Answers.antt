@@ -8,4 +8,4 @@ use Rattle.file_heap.proofs.heap.give_back.Goals as goal
 
 pub returns-clause-fillers : goal.returns-clause-fillers
 returns-clause-fillers g c =
-    subst (λ (xs : List Extent). OnOk c.give_range-given.result (Both (KeepsFillers xs (give_alone c.args.place c.args.n xs)) (g.S.Space.image c.args.space.now) (g.S.Space.image c.give_range-given.new.space))) c.in_ok-gaps.ensures.ok c.give_range-given.ensures.fillers
+    subst (λ (xs : List Extent). OnOk c.give_range-given.result (Both (KeepsFillers xs (give_alone c.args.place c.args.n xs)) (g.S.ReadBytes.image c.args.space.now) (g.S.ReadBytes.image c.give_range-given.new.space))) c.in_ok-gaps.ensures.ok c.give_range-given.ensures.fillers

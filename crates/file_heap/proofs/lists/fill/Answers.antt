@@ -5,4 +5,4 @@ use Rattle.file_heap.proofs.lists.fill.Goals as goal
 
 pub returns-clause-written : goal.returns-clause-written
 returns-clause-written g c =
-    on_ok c.write_bytes.result (is_filled c.args.place c.args.length _ (g.S.Space.image c.args.space.now) (g.S.Space.image c.write_bytes.new.space) c.requires.some c.requires.short refl) c.write_bytes.ensures.written
+    on_ok c.write_bytes.result (is_filled c.args.place c.args.length _ (g.S.ReadBytes.image c.args.space.now) (g.S.ReadBytes.image c.write_bytes.new.space) c.requires.some c.requires.short refl) c.write_bytes.ensures.written

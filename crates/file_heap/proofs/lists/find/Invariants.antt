@@ -5,8 +5,8 @@ use Rattle.file_heap.proofs.lists.find.Given as goal
 
 abbrev pub invariant-loop-list : goal.invariant-loop-list
 invariant-loop-list g l = record {
-  sound : g.S.Space.is_sound l.space;
-  image : g.S.Space.image l.space ≡ g.S.Space.image l.fn.space;
-  looks : Looks (g.S.Space.state l.fn.space) (g.S.Space.state l.space);
-  none : NoneBelow (g.S.Space.image l.fn.space) l.gaps l.place l.list;
+  sound : g.S.ReadBytes.is_sound l.space;
+  image : g.S.ReadBytes.image l.space ≡ g.S.ReadBytes.image l.fn.space;
+  looks : Looks (g.S.ReadBytes.state l.fn.space) (g.S.ReadBytes.state l.space);
+  none : NoneBelow (g.S.ReadBytes.image l.fn.space) l.gaps l.place l.list;
 }

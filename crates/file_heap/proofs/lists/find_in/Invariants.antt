@@ -6,9 +6,9 @@ use Rattle.file_heap.proofs.lists.find_in.Given as goal
 
 abbrev pub invariant-loop-passed : goal.invariant-loop-passed
 invariant-loop-passed g l = record {
-  sound : g.S.Space.is_sound l.space;
-  image : g.S.Space.image l.space ≡ g.S.Space.image l.fn.space;
-  looks : Looks (g.S.Space.state l.fn.space) (g.S.Space.state l.space);
+  sound : g.S.ReadBytes.is_sound l.space;
+  image : g.S.ReadBytes.image l.space ≡ g.S.ReadBytes.image l.fn.space;
+  looks : Looks (g.S.ReadBytes.state l.fn.space) (g.S.ReadBytes.state l.space);
   head : HasHead l.front;
-  walked : HasWalked (g.S.Space.image l.fn.space) l.gaps l.list l.place l.front l._passed;
+  walked : HasWalked (g.S.ReadBytes.image l.fn.space) l.gaps l.list l.place l.front l._passed;
 }

@@ -6,5 +6,5 @@ use Rattle.file_heap.proofs.lists.first_in.Goals as goal
 
 pub returns-clause-cause : goal.returns-clause-cause
 returns-clause-cause g c =
-    all_refused_for (PointsNowhere (g.S.Space.image c.args.space.now) c.link_at.result) (ThreadsNone (g.S.Space.image c.args.space.now)) (g.S.Space.state c.args.space.now).faults (g.S.Space.state c.read_link.new.space).faults c.read_link.result
-    (λ nowhere. nowhere_threads (g.S.Space.image c.args.space.now) c.args.list c.requires.list (subst (PointsNowhere (g.S.Space.image c.args.space.now)) c.link_at.ensures.place nowhere)) c.read_link.ensures.cause
+    all_refused_for (PointsNowhere (g.S.ReadBytes.image c.args.space.now) c.link_at.result) (ThreadsNone (g.S.ReadBytes.image c.args.space.now)) (g.S.ReadBytes.state c.args.space.now).faults (g.S.ReadBytes.state c.read_link.new.space).faults c.read_link.result
+    (λ nowhere. nowhere_threads (g.S.ReadBytes.image c.args.space.now) c.args.list c.requires.list (subst (PointsNowhere (g.S.ReadBytes.image c.args.space.now)) c.link_at.ensures.place nowhere)) c.read_link.ensures.cause

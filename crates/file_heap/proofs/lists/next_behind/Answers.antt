@@ -7,5 +7,5 @@ use Rattle.file_heap.proofs.lists.next_behind.Goals as goal
 
 pub returns-clause-cause : goal.returns-clause-cause
 returns-clause-cause g c =
-    all_refused_for (PointsNowhere (g.S.Space.image c.args.space.now) (c.args.place + 16)) (IsUntold (g.S.Space.image c.args.space.now)) (g.S.Space.state c.args.space.now).faults (g.S.Space.state c.read_link.new.space).faults c.read_link.result
-    (unlink_reads (g.S.Space.image c.args.space.now) c.args._gaps.now c.args.place c.args._spot c.requires.threads c.requires.list c.requires.found) c.read_link.ensures.cause
+    all_refused_for (PointsNowhere (g.S.ReadBytes.image c.args.space.now) (c.args.place + 16)) (IsUntold (g.S.ReadBytes.image c.args.space.now)) (g.S.ReadBytes.state c.args.space.now).faults (g.S.ReadBytes.state c.read_link.new.space).faults c.read_link.result
+    (unlink_reads (g.S.ReadBytes.image c.args.space.now) c.args._gaps.now c.args.place c.args._spot c.requires.threads c.requires.list c.requires.found) c.read_link.ensures.cause

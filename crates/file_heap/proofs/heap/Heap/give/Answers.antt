@@ -31,6 +31,6 @@ returns-clause-tiles g c =
 
 pub returns-clause-end : goal.returns-clause-end
 returns-clause-end g c =
-    subst (λ (s : HeapState). OnOk c.give_back.result (Both (MovesEnd s.now.end c.self.inside.end) (g.S.Space.image c.args.space.now) (g.S.Space.image c.give_back.new.space))) c.self.view_is
-    (given_end c.give_back.result (heap_of (gaps_in c.self.inside.work c.self.inside.kept.items) c.self.inside.end) c.args.place c.args.n (g.S.Space.image c.args.space.now) (g.S.Space.image c.give_back.new.space) c.requires.within.0
-    (subst (λ (s : HeapState). IfSome (g.S.Space.image c.args.space.now) (λ bytes. ThreadsFreeChunks bytes s.now.gaps)) (sym c.self.view_is) c.requires.threads) c.give_back.ensures.bytes)
+    subst (λ (s : HeapState). OnOk c.give_back.result (Both (MovesEnd s.now.end c.self.inside.end) (g.S.ReadBytes.image c.args.space.now) (g.S.ReadBytes.image c.give_back.new.space))) c.self.view_is
+    (given_end c.give_back.result (heap_of (gaps_in c.self.inside.work c.self.inside.kept.items) c.self.inside.end) c.args.place c.args.n (g.S.ReadBytes.image c.args.space.now) (g.S.ReadBytes.image c.give_back.new.space) c.requires.within.0
+    (subst (λ (s : HeapState). IfSome (g.S.ReadBytes.image c.args.space.now) (λ bytes. ThreadsFreeChunks bytes s.now.gaps)) (sym c.self.view_is) c.requires.threads) c.give_back.ensures.bytes)

@@ -2,7 +2,7 @@ use Rattle.std.proofs.Common.{length, ◌-◌, ◌≡◌, ◌⊎◌, ◌+◌, �
 use Rattle.std.specs.Prelude.{IfSome, get_or}
 use Rattle.cg_io.specs.Blocks.{ReadsFew, blocks_of}
 use Rattle.block_draft.specs.Changes.{image_of}
-use Rattle.block_draft.proofs.draft.DraftSpace.read.Given as goal
+use Rattle.block_draft.proofs.draft.DraftReadBytes.read.Given as goal
 
 abbrev pub invariant-loop-done : goal.invariant-loop-done
 invariant-loop-done g l = record {

@@ -1,19 +1,19 @@
 use Rattle.std.proofs.Common.{◌≡◌, ◌⊎◌, ◌+◌, ◌/◌, ◌%◌, length, arith, refl, sym, ◌∙◌, subst}
 use Rattle.cg_io.specs.Device.{Gives}
 use Rattle.block_draft.specs.Changes.{image_of}
-use Rattle.block_draft.proofs.Spaces.{read_step, read_whole}
-use Rattle.block_draft.proofs.Counts.{effect_step, few_step, edge_step}
-use Rattle.block_draft.proofs.draft.DraftSpace.read.Goals as goal
+use Rattle.cg_io.proofs.ReadLaws.{reads_then}
+use Rattle.cg_io.proofs.PieceLaws.{read_step, read_whole, few_step, edge_step}
+use Rattle.block_draft.proofs.draft.DraftReadBytes.read.Goals as goal
 
 pub loop-done-preserved : goal.loop-done-preserved
-loop-done-preserved g c = let same : length c.patch_slice.new.into ≡ length c.loop-done.into = c.patch_slice.auto.into in
+loop-done-preserved g c = let same : length c.overwrite.new.into ≡ length c.loop-done.into = c.overwrite.auto.into in
     let gives : Gives (image_of (g.B.Blocks.state c.args.self.now.blocks).held c.args.self.now.changed) ((c.args.place + c.loop-done.done) / 4096) c.load.new.into = rw (c.loop-done.invariant.effect.held, c.loop-done.invariant.changed) at c.in-Ok.ensures.told in
     record {
       inside = omega arith;
       sound = c.load.ensures.sound;
       changed = c.load.ensures.changed ∙ c.loop-done.invariant.changed;
-      taken = read_step _ c.args.place c.loop-done.done c.min-count.result ((c.args.place + c.loop-done.done) / 4096) ((c.args.place + c.loop-done.done) % 4096) c.loop-done.into c.load.new.into _ c.patch_slice.new.into c.loop-done.invariant.taken gives (omega arith) (omega arith) c.load.array_long refl c.patch_slice.ensures;
-      effect = effect_step _ _ _ _ _ c.loop-done.invariant.effect c.load.ensures.effect (few_step c.args.place c.loop-done.done c.min-count.result (length c.loop-done.into) c.loop-done-test.true c.min-count.ensures c.loop-done.invariant.edge);
+      taken = read_step _ c.args.place c.loop-done.done c.min-count.result ((c.args.place + c.loop-done.done) / 4096) ((c.args.place + c.loop-done.done) % 4096) c.loop-done.into c.load.new.into _ c.overwrite.new.into c.loop-done.invariant.taken gives (omega arith) (omega arith) c.load.array_long refl c.overwrite.ensures;
+      effect = reads_then _ _ _ _ _ _ c.loop-done.invariant.effect c.load.ensures.effect (few_step c.args.place c.loop-done.done c.min-count.result (length c.loop-done.into) c.loop-done-test.true c.min-count.ensures c.loop-done.invariant.edge);
       edge = subst (λ n. (c.loop-done.done + c.min-count.result ≡ 0) ⊎ ((c.loop-done.done + c.min-count.result ≡ n) ⊎ ((c.args.place + (c.loop-done.done + c.min-count.result)) % 4096 ≡ 0))) (sym same) (edge_step c.args.place c.loop-done.done c.min-count.result (length c.loop-done.into) c.loop-done-test.true c.min-count.ensures);
     }
 
