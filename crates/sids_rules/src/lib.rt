@@ -12,6 +12,3 @@ pub use arrays::{breaks_k15, breaks_k16, breaks_k21};
 pub use sections::{breaks_k26, breaks_k28, breaks_k29, breaks_k30};
 pub use words::{breaks_k20, breaks_k31, breaks_k33, without_padding};
 pub use zones::{RuleKind, breaks_k06, breaks_k08, breaks_k09, breaks_k10, breaks_k11};
-
-#[cfg(test)]
-mod tests;

@@ -11,6 +11,3 @@ mod words;
 pub use elements::nodes_of;
 pub use labels::{LabelKind, allowed, label_kind};
 pub use words::{is_bc_type, is_data_class, is_location, is_simulation_type, is_zone_type};
-
-#[cfg(test)]
-mod tests;
