@@ -1,17 +1,16 @@
 -- What holds of one file holds among all files, of which it alone is changed.
 use Rattle.std.proofs.Common.{◌≡◌, ◌≢◌, inl, inr, ℕ, zero, suc, ◌<◌, ◌≤◌, List, [], ◌∷◌, length, get_or, set, map, refl, sym, ◌∙◌, ap, subst, arith, Bool, false}
 use Rattle.std.proofs.lemmas.Bool.{cases_eq}
-use Rattle.std.specs.Prelude.{Option, Some, None, IsSome, if◌then◌else◌}
-use Rattle.adf_model.specs.Slots.{File, Files, Device, Devices, no_device, device_at, slot_at, with_slot, is_gone, IsTold}
+use Rattle.std.specs.Prelude.{Option, Some, None, IsSome}
+use Rattle.adf_model.specs.Slots.{Files, Device, Devices, no_device, device_at, slot_at, with_slot, is_gone, IsToldAt}
 use Rattle.adf_model.specs.Slots as model
-use Rattle.adf_model.specs.Steps.{OnlyRead, NoneFell, NoCountFell, OthersOnlyRead, OthersStayPlaced, AllLaidOut}
+use Rattle.adf_model.specs.Steps.{OnlyRead, NoneFell, NoCountFell, OthersOnlyRead, OthersStayPlaced, IsLaidOutAt}
+use Rattle.adf_model.specs.Runs.{KeepsLayouts}
 use Rattle.adf_model.proofs.Basics.{not_true}
 use Rattle.cg_io.specs.Device.{DeviceState}
-use Rattle.session.specs.Calls.{name_there, names_there}
 use Rattle.plain_library.specs.declared.shelf.Slot.{Slot}
-use Rattle.plain_library.specs.Calls.{IsLaidOutAt}
 use Rattle.plain_library.specs.Library.{file_in, device_in}
-use Rattle.plain_library.proofs.SlotLaws.{at_slot, at_new, at_other, length_kept, kept}
+use Rattle.plain_library.proofs.SlotLaws.{at_slot, at_new, at_other, length_kept}
 
 -- one file has another state, its device may be another, and all other devices stay
 pub record OneSet (n : ℕ) (files : Files) (before : Devices) (slot : model.Slot) (now : Devices) (after : Files) : Type 0 where
@@ -109,26 +108,24 @@ module _ (n : ℕ) (files : Files) (before : Devices) (slot : model.Slot) (now :
     elsewhere : (k : ℕ) → k ≢ n → slot_at after k ≡ slot_at files k
     elsewhere k ne = ap (λ (fs : Files). slot_at fs k) one.made ∙ slot_other files n k slot ne
 
-    pub told_among : is_gone slot ≡ is_gone (slot_at files n) → (IsSome (device_at before n).held → IsSome (device_at now n).held) → IsTold files before → IsTold after now
-    told_among same keeps told k stands = elim (cases_eq k n) [
-      | inl is ↦ subst (λ i. IsSome (device_at now i).held) (sym is)
-          (keeps (told n (sym same ∙ ap is_gone (sym there) ∙ ap (λ i. is_gone (slot_at after i)) (sym is) ∙ stands)))
-      | inr ne ↦ subst (λ (d : Device). IsSome d.held) (sym (one.others k ne)) (told k (ap is_gone (sym (elsewhere k ne)) ∙ stands))
+    told_among : is_gone slot ≡ is_gone (slot_at files n) → (IsSome (device_at before n).held → IsSome (device_at now n).held) → (k : ℕ) → IsToldAt (slot_at files k) (device_at before k) → IsToldAt (slot_at after k) (device_at now k)
+    told_among same keeps k = elim (cases_eq k n) [
+      | inl is ↦ subst (λ i. IsToldAt (slot_at files i) (device_at before i) → IsToldAt (slot_at after i) (device_at now i)) (sym is) (λ told stands. keeps (told (sym same ∙ ap is_gone (sym there) ∙ stands)))
+      | inr ne ↦ subst (λ (d : Device). IsToldAt (slot_at files k) (device_at before k) → IsToldAt (slot_at after k) d) (sym (one.others k ne))
+          (subst (λ (s : model.Slot). IsToldAt (slot_at files k) (device_at before k) → IsToldAt s (device_at before k)) (sym (elsewhere k ne)) (λ told. told))
     ]
 
-    pub laid_among : (IsLaidOutAt (slot_at files n) (device_at before n) → IsLaidOutAt slot (device_at now n)) → AllLaidOut files before → AllLaidOut after now
-    laid_among keeps laid k = elim (cases_eq k n) [
-      | inl is ↦ subst (λ i. IsLaidOutAt (slot_at after i) (device_at now i)) (sym is) (subst (λ (s : model.Slot). IsLaidOutAt s (device_at now n)) (sym there) (keeps (laid n)))
-      | inr ne ↦ subst (λ (d : Device). IsLaidOutAt (slot_at after k) d) (sym (one.others k ne)) (subst (λ (s : model.Slot). IsLaidOutAt s (device_at before k)) (sym (elsewhere k ne)) (laid k))
+    laid_among : (IsLaidOutAt (slot_at files n) (device_at before n) → IsLaidOutAt slot (device_at now n)) → (k : ℕ) → IsLaidOutAt (slot_at files k) (device_at before k) → IsLaidOutAt (slot_at after k) (device_at now k)
+    laid_among keeps k = elim (cases_eq k n) [
+      | inl is ↦ subst (λ i. IsLaidOutAt (slot_at files i) (device_at before i) → IsLaidOutAt (slot_at after i) (device_at now i)) (sym is) (λ laid. subst (λ (s : model.Slot). IsLaidOutAt s (device_at now n)) (sym there) (keeps laid))
+      | inr ne ↦ subst (λ (d : Device). IsLaidOutAt (slot_at files k) (device_at before k) → IsLaidOutAt (slot_at after k) d) (sym (one.others k ne))
+          (subst (λ (s : model.Slot). IsLaidOutAt (slot_at files k) (device_at before k) → IsLaidOutAt s (device_at before k)) (sym (elsewhere k ne)) (λ laid. laid))
     ]
+
+    pub layouts_among : is_gone slot ≡ is_gone (slot_at files n) → (IsSome (device_at before n).held → IsSome (device_at now n).held) → (IsLaidOutAt (slot_at files n) (device_at before n) → IsLaidOutAt slot (device_at now n)) → KeepsLayouts files before now after
+    layouts_among same tells lays = record { told = told_among same tells; laid_out = laid_among lays }
 
 -- ---- slots
-
-there_now : (name : List ℕ) (gone other : Bool) (none : Option (List ℕ)) → gone ≡ other → (if gone then none else Some name) ≡ (if other then none else Some name)
-there_now name gone other none is = ap (λ b. if b then none else Some name) is
-
-same_name : (a b : File) → b.name ≡ a.name → is_gone b.slot ≡ is_gone a.slot → name_there b ≡ name_there a
-same_name a b name gone = ap (λ (l : List ℕ). if is_gone b.slot then None else Some l) name ∙ there_now a.name (is_gone b.slot) (is_gone a.slot) None gone
 
 module _ {D : Type 0} (state : D → DeviceState) (slots : List (Slot D)) (n : ℕ) (old new : Slot D) (within : n < length slots) (is : old ≡ get_or slots n old) where
   pub slot_here : slot_at (map file_in slots) n ≡ (file_in old).slot
@@ -156,10 +153,3 @@ module _ {D : Type 0} (state : D → DeviceState) (slots : List (Slot D)) (n : �
       by_list [] n lt is = absurd (omega arith)
       by_list (x ∷ xs) zero lt is = ap (λ (name : List ℕ). record { name = name; slot = (file_in new).slot } ∷ map file_in xs) (same ∙ ap (λ (s : Slot D). (file_in s).name) is)
       by_list (x ∷ xs) (suc n) lt is = ap (λ (fs : Files). file_in x ∷ fs) (by_list xs n (omega arith) is)
-
-  pub names_among : (file_in new).name ≡ (file_in old).name → is_gone (file_in new).slot ≡ is_gone (file_in old).slot → names_there (map file_in (set slots n new)) ≡ names_there (map file_in slots)
-  names_among name gone = twice (set slots n new) ∙ kept (λ (s : Slot D). name_there (file_in s)) slots n old new within is (same_name (file_in old) (file_in new) name gone) ∙ sym (twice slots)
-    where
-      twice : (xs : List (Slot D)) → map name_there (map file_in xs) ≡ map (λ (s : Slot D). name_there (file_in s)) xs
-      twice [] = refl
-      twice (x ∷ xs) = ap (λ (l : List (Option (List ℕ))). name_there (file_in x) ∷ l) (twice xs)

@@ -1,6 +1,6 @@
 -- The children of a node of one file are those among all files.
 use Rattle.std.proofs.Common.{◌≡◌, ℕ, List, [], ◌∷◌, map, arith, refl, sym, ◌∙◌, ap, subst, Bool, true, false, not}
-use Rattle.std.specs.Prelude.{Option, Some, None, Result, Ok, Err, ◌||◌, if◌then◌else◌, is_some}
+use Rattle.std.specs.Prelude.{Option, Some, None, Result, Ok, Err, ◌||◌, if◌then◌else◌, is_some, IfOk}
 use Rattle.adf_format.specs.Tree.{Tree, Node, node_at, children_at, children_of, is_live, is_link_in}
 use Rattle.adf_model.specs.declared.error.AdfError.{AdfError}
 use Rattle.adf_model.specs.declared.error.AdfError.TheVariants.{Memory, ReadFault, NotOpen, NoSuchFile, NoSuchNode}
@@ -12,8 +12,10 @@ use Rattle.adf_model.specs.Slots.{Open, Slot, Files, Devices, device_at, slot_at
 use Rattle.adf_model.specs.Slots.Slot.{Live}
 use Rattle.adf_model.specs.Follow.{follow, follow_text, reach, text_in, text_of_open, link_text_at}
 use Rattle.adf_model.specs.Calls.{is_live_in, tests_at_entry}
-use Rattle.adf_model.specs.Answers.{answer, field_at, field_of, child_entry, reply_to}
-use Rattle.adf_model.specs.Steps.{Asked, Step, OthersOnlyRead, OthersStayPlaced, is_query_error}
+use Rattle.adf_model.specs.Answers.{answer, field_at, field_of, child_entry, reply_to, may_refuse, IsReplyTo}
+use Rattle.adf_model.specs.Steps.{Asked, Step, OthersOnlyRead, OthersStayPlaced}
+use Rattle.adf_model.specs.Causes.{EntersFiles, AskedAnyway}
+use Rattle.plain_library.proofs.Entries.{entered_files, lacks_memory, refused_files}
 use Rattle.adf_model.proofs.Basics.{not_true, not_there, same_Some}
 use Rattle.adf_model.proofs.LayoutLemmas.{live_slot}
 use Rattle.adf_model.proofs.FollowLaws.{follow-step}
@@ -101,8 +103,33 @@ asking_among files before node result plain is = by_result result is
     by_result (Err ReadFault) is = absurd (not_true (entry_plain (slot_at files node.file) node.serial ReadFault is))
     by_result (Err error) is = (
       sym (refused_by (tests_at_entry files (node ∷ [])) (reply_to files (Query.ChildrenOf node) None) error (ap first_refusal (same_tests files node) ∙ is)),
-      first_of_kind is_query_error (entry_tests (slot_at files node.file) node.serial) error (refl, (refl, (refl, (refl, tt)))) is,
+      first_of_kind (may_refuse (Query.ChildrenOf node)) (entry_tests (slot_at files node.file) node.serial) error (refl, (refl, (refl, (refl, tt)))) is,
       refl,
       read,
       placed,
     )
+
+-- and it is so whether devices tell or not
+pub asking_anyway : (files : Files) (before : Devices) (node : NodeId) (result : Result Reply AdfError) → HasNoLinks (slot_at files node.file) → IsAskedAt (slot_at files node.file) node result → AskedAnyway files before (Query.ChildrenOf node) result before files
+asking_anyway files before node result plain is =
+    let step = asking_among files before node result plain is in
+    record {
+      leaves = record { files_stay = step.2; devices_stay = step.3; placed = step.4 };
+      entry = enters result is;
+      cause = step.1;
+      kind = of_kind result is;
+    }
+  where
+    enters : (result : Result Reply AdfError) → IsAskedAt (slot_at files node.file) node result → EntersFiles files (node ∷ []) true result
+    enters (Ok reply) is = entered_files files node reply is.0
+    enters (Err Memory) is = lacks_memory files node
+    enters (Err error) is = refused_files files node error is
+
+    child_reply : (o : Option Open) (reply : Reply) → children_reply node o ≡ Some reply → IsReplyTo (Query.ChildrenOf node) reply
+    child_reply None reply e = absurd (not_there reply e)
+    child_reply (Some opened) reply e = subst (IsReplyTo (Query.ChildrenOf node)) (same_Some (Reply.Children (map (child_entry opened.tree node.file) (children_at opened.tree node.serial))) reply e) tt
+
+    of_kind : (result : Result Reply AdfError) → IsAskedAt (slot_at files node.file) node result → IfOk result (IsReplyTo (Query.ChildrenOf node))
+    of_kind (Ok reply) is = child_reply (open_of (slot_at files node.file)) reply is.1
+    of_kind (Err Memory) is = tt
+    of_kind (Err error) is = tt

@@ -1,5 +1,5 @@
 -- Blocks of bytes, written one after another.
-use Rattle.std.proofs.Common.{◌≡◌, ◌≢◌, inl, inr, ℕ, zero, suc, ◌+◌, ◌-◌, ◌*◌, ◌<◌, ◌≤◌, max, List, ◌++◌, length, get_or, take, drop, replicate, refl, sym, ◌∙◌, ap, subst, arith, append-nil, length-append, length-take, length-drop}
+use Rattle.std.proofs.Common.{◌≡◌, ◌≢◌, ◌⊎◌, inl, inr, ℕ, zero, suc, ◌+◌, ◌-◌, ◌*◌, ◌/◌, ◌<◌, ◌≤◌, max, List, ◌++◌, length, get_or, take, drop, replicate, refl, sym, ◌∙◌, ap, subst, arith, append-nil, length-append, length-take, length-drop}
 use Rattle.std.proofs.lemmas.List.{get_or-take, get_or-drop, get_or_append_left, get_or-append_right, get_or_past}
 use Rattle.std.proofs.lemmas.Grind.{same_number_lists}
 use Rattle.std.proofs.lemmas.Bool.{cases_lt}
@@ -8,8 +8,8 @@ use Rattle.std.proofs.lemmas.Slice.Eq.{bytes_eq-Decides}
 use Rattle.std.proofs.lemmas.Bool.Decides.{nat_tests}
 use Rattle.cg_io.specs.Cause.{raised}
 use Rattle.std.specs.Prelude.{Bool, true, false, not, ◌||◌, nat_lt, if◌then◌else◌, Option, Some, None, IfSome, option_map}
-use Rattle.adf_model.specs.Steps.{TornAt, block}
-use Rattle.adf_model.proofs.Basics.{not_false}
+use Rattle.adf_model.specs.Torn.{TornAt, block}
+use Rattle.adf_model.proofs.Basics.{not_false, not_true}
 use Rattle.cg_io.specs.Device.{DeviceState, bytes_at, overwritten, with_block, Tears, IsTorn}
 use Rattle.cg_io.proofs.Places.{length-overwritten, overwritten-below, overwritten-within, overwritten-above, length-bytes_at, get_or-bytes_at}
 use Rattle.cg_io.proofs.BlockLemmas.{Gives-torn}
@@ -131,10 +131,10 @@ unfolding bytes_at
 as_block bytes k = refl
 
 -- what a failed write of a block leaves
-pub block_torn : (n : ℕ) (old new : List ℕ) (first held later : Option (List ℕ)) → n * 4096 + 4096 ≤ length new → held ≡ option_map (λ bytes. mixed n old new) first → Tears held n later → LeavesTorn old new later
-block_torn n old new first held None le before tears = tt
-block_torn n old new None held (Some now) le before tears = absurd (subst (λ (h : Option (List ℕ)). Tears h n (Some now)) before tears)
-block_torn n old new (Some bytes) held (Some now) le before tears = (n, torn (subst (λ (h : Option (List ℕ)). Tears h n (Some now)) before tears))
+pub block_torn : (n : ℕ) (old new : List ℕ) (first held later : Option (List ℕ)) → has_changed old new n ≡ true → n * 4096 + 4096 ≤ length new → held ≡ option_map (λ bytes. mixed n old new) first → Tears held n later → LeavesTorn old new later
+block_torn n old new first held None changed le before tears = tt
+block_torn n old new None held (Some now) changed le before tears = absurd (subst (λ (h : Option (List ℕ)). Tears h n (Some now)) before tears)
+block_torn n old new (Some bytes) held (Some now) changed le before tears = (n, changed, le, torn (subst (λ (h : Option (List ℕ)). Tears h n (Some now)) before tears))
   where
     size : IsTorn (mixed n old new) n now → (length (mixed n old new) ≤ length now) × (length now ≤ max (length (mixed n old new)) (n * 4096 + 4096))
     size (piece, wide, inl is) = let e = ap length is in let o = length-overwritten (mixed n old new) (n * 4096) piece in (omega (arith, e, o, wide), omega (arith, e, o, wide))
@@ -145,12 +145,29 @@ block_torn n old new (Some bytes) held (Some now) le before tears = (n, torn (su
     long : length (mixed n old new) ≡ max (n * 4096) (length old)
     long = length-spliced (n * 4096) old new (omega (arith, le))
 
+    either : (a b c : ℕ) → c ≡ max a b → (c ≡ a) ⊎ (c ≡ b)
+    either a b c is = elim (cases_lt a b) [ inl lt ↦ inr (omega (arith, is, lt)) | inr le ↦ inl (omega (arith, is, le)) ]
+
+    -- the length is that of before, or a number of whole blocks
+    sized : IsTorn (mixed n old new) n now → (length (mixed n old new) ≡ n * 4096) ⊎ (length (mixed n old new) ≡ length old) → (length now ≡ length old) ⊎ ((blocks : ℕ) × (length now ≡ blocks * 4096))
+    sized (piece, wide, inl is) long =
+        let e = ap length is in let o = length-overwritten (mixed n old new) (n * 4096) piece in
+        elim (either (length (mixed n old new)) (n * 4096 + 4096) (length now) (omega (arith, e, o, wide))) [
+          | inl same ↦ elim long [ inl low ↦ inr (n, omega (arith, same, low)) | inr stays ↦ inl (omega (arith, same, stays)) ]
+          | inr more ↦ inr (n + 1, omega (arith, more))
+        ]
+    sized (piece, wide, inr is) long =
+        let e = ap length is in let o = length-overwritten (mixed n old new) (n * 4096) piece in let t = length-take (length (mixed n old new)) (overwritten (mixed n old new) (n * 4096) piece) in
+        let same : length now ≡ length (mixed n old new) = omega (arith, e, o, t) in
+        elim long [ inl low ↦ inr (n, omega (arith, same, low)) | inr stays ↦ inl (omega (arith, same, stays)) ]
+
     torn : IsTorn (mixed n old new) n now → TornAt n old new now
     torn is = record {
       written = λ k lt. as_block now k ∙ torn_other (mixed n old new) now k n (λ e. absurd (omega (arith, e, lt))) is ∙ block_below n k old new (omega (arith, le)) lt ∙ sym (as_block new k);
       unwritten = λ k lt. as_block now k ∙ torn_other (mixed n old new) now k n (λ e. absurd (omega (arith, e, lt))) is ∙ block_above n k old new (omega (arith, le)) lt ∙ sym (as_block old k);
       kept = let s = size is in let l = long in omega (arith, s.0, l);
       grown = let s = size is in let l = long in omega (arith, s.1, l);
+      whole = sized is (either (n * 4096) (length old) (length (mixed n old new)) long);
     }
 
 -- pieces that are told apart
@@ -202,3 +219,25 @@ counts_on a b c one two = record { faults = omega (arith, one.faults, two.faults
 pub on_err : (P : Type 0) (result : Result Unit AdfError) → P → OnErr result P
 on_err P (Ok done) p = tt
 on_err P (Err error) p = p
+
+-- a block behind the end that was to stay has not changed
+pub changed_before_end : (old new : List ℕ) (end n : ℕ) → has_changed old new n ≡ true → n * 4096 + 4096 ≤ length new → length new ≤ max (length old) ((end / 4096 + 1) * 4096) → ((b : ℕ) → end < b → get_or new b 0 ≡ get_or old b 0) → n * 4096 ≤ end
+changed_before_end old new end n changed le reach tail = elim (cases_lt end (n * 4096)) [ inl past ↦ absurd (none past) | inr within ↦ within ]
+  where
+    none : end < n * 4096 → ⊥
+    none past =
+        let fits : n * 4096 + 4096 ≤ length old = omega (arith, past, le, reach) in
+        let same : bytes_at old (n * 4096) 4096 ≡ bytes_at new (n * 4096) 4096 = same_number_lists _ _ (length-bytes_at old (n * 4096) 4096 ∙ sym (length-bytes_at new (n * 4096) 4096))
+            (λ i few. each i past (let w = length-bytes_at old (n * 4096) 4096 in omega (arith, w, few))) in
+        not_true (sym (not_changed fits same) ∙ changed)
+      where
+        each : (i : ℕ) → end < n * 4096 → i < 4096 → get_or (bytes_at old (n * 4096) 4096) i 0 ≡ get_or (bytes_at new (n * 4096) 4096) i 0
+        each i past few = get_or-bytes_at old (n * 4096) 4096 i few ∙ sym (tail (n * 4096 + i) (omega (arith, past))) ∙ sym (get_or-bytes_at new (n * 4096) 4096 i few)
+
+        not_short : (a b : ℕ) → b ≤ a → nat_lt a b ≡ false
+        not_short a b le = grind (arith, nat_tests)
+
+        not_changed : n * 4096 + 4096 ≤ length old → bytes_at old (n * 4096) 4096 ≡ bytes_at new (n * 4096) 4096 → has_changed old new n ≡ false
+        not_changed fits same =
+            ap (λ b. b || not (bytes_eq (bytes_at old (n * 4096) 4096) (bytes_at new (n * 4096) 4096))) (not_short (length old) (n * 4096 + 4096) fits)
+            ∙ ap not ((bytes_eq-Decides (bytes_at old (n * 4096) 4096) (bytes_at new (n * 4096) 4096)).1 same)

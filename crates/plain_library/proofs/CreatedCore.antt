@@ -1,7 +1,10 @@
 -- An open file with a child more is an open file again, and that child is what the model makes.
 use Rattle.std.proofs.Common.{◌≡◌, ◌⊎◌, inl, inr, ℕ, zero, suc, ◌+◌, ◌-◌, ◌*◌, ◌/◌, ◌^◌, ◌<◌, ◌≤◌, max, List, [], ◌∷◌, ◌++◌, length, map, get_or, replicate, refl, sym, ◌∙◌, ap, subst, arith, length-append}
-use Rattle.std.proofs.lemmas.List.{length-map, length-replicate}
-use Rattle.std.specs.Prelude.{Option, Some, None, IsSome, is_some, Result, Ok, Err, slice_get, slice_index_or, if◌then◌else◌}
+use Rattle.std.proofs.lemmas.List.{length-map, length-replicate, get_or_past}
+use Rattle.std.proofs.lemmas.Option.{unwrap_or-slice_get}
+use Rattle.std.proofs.lemmas.Bool.{cases_lt}
+use Rattle.cg_io.proofs.Places.{get_or-padded}
+use Rattle.std.specs.Prelude.{Option, Some, None, IsSome, is_some, Result, Ok, Err, slice_get, slice_index_or, unwrap_or, if◌then◌else◌}
 use Rattle.adf_format.specs.Tree.{Tree, children_of, node_at, depth_of, is_link_in}
 use Rattle.adf_format.specs.Tiles.{cover}
 use Rattle.adf_format.specs.Placement.{Placement, Heap, NodeParts, table_extents}
@@ -18,7 +21,6 @@ use Rattle.adf_model.specs.Creation.{IsCreation, Write, WritesAll, all_written, 
 use Rattle.adf_model.proofs.Basics.{NoneHolds, same_Some, not_there}
 use Rattle.adf_model.proofs.CreateLaidOut.{create_laid_out, create_written}
 use Rattle.adf_model.proofs.CreatedChild.{above_stay, child_depth}
-use Rattle.adf_model.proofs.ManyWrites.{get_left}
 use Rattle.cg_io.specs.Device.{padded}
 use Rattle.plain_library.specs.declared.open_file.Table.{Table}
 use Rattle.plain_library.specs.declared.open_file.Row.{Row}
@@ -117,10 +119,6 @@ module _ (old new : Core) (k : ℕ) (row : Row) (plan : Plan) (name label : List
   ends : EndBy (plan.end + 1) (child_writes grown row plan name label)
   ends = writes_end grown row plan name label (name_fits (core_tree old) k name label passes) (label_fits (core_tree old) k name label passes) (old.end + 1) (plans.fits few) (let f = plans.further in omega (arith, f)) used
 
-  old_front : (byte : ℕ) → byte < length old.image.items → slice_get grown byte ≡ slice_get old.image.items byte
-  unfolding padded
-  old_front byte below = get_left old.image.items (replicate (whole_length plan.end - length old.image.items) 0) byte below
-
   -- ---- the model's creation
 
   abbrev node : NodeId
@@ -205,12 +203,22 @@ module _ (old new : Core) (k : ℕ) (row : Row) (plan : Plan) (name label : List
     made = λ place e. made place e ∙ ap Ok (sym tree);
     placed = plans.placed ∙ ap Ok same_place;
     limit = limit;
-    longer = (let n = new_long in let g = grown_long in omega (arith, n, g));
-    behind = λ byte past below.
-        sym (ap (λ (l : List ℕ). slice_get l byte) same_bytes)
-        ∙ all_stand.others byte (let g = grown_long in omega (arith, g, below)) (subst (λ (ws : List Write). cover (write_extents ws) byte ≡ 0) (sym (plans.writes grown name label)) (none_past (plan.end + 1) byte (child_writes grown row plan name label) (omega (arith, past, end)) ends))
-        ∙ old_front byte below;
+    tail = record { longer = (let n = new_long in let g = grown_long in omega (arith, n, g)); tail = tail_stays };
+    reach = (let n = new_long in let g = grown_long in omega (arith, n, g, end));
   }
+    where
+      front : (byte : ℕ) → new.end < byte → byte < length grown → get_or new.image.items byte 0 ≡ get_or grown byte 0
+      front byte past below =
+          sym (unwrap_or-slice_get new.image.items byte 0)
+          ∙ ap (λ o. unwrap_or o 0) (sym (ap (λ (l : List ℕ). slice_get l byte) same_bytes)
+          ∙ all_stand.others byte below (subst (λ (ws : List Write). cover (write_extents ws) byte ≡ 0) (sym (plans.writes grown name label)) (none_past (plan.end + 1) byte (child_writes grown row plan name label) (omega (arith, past, end)) ends)))
+          ∙ unwrap_or-slice_get grown byte 0
+
+      tail_stays : (byte : ℕ) → new.end < byte → get_or new.image.items byte 0 ≡ get_or old.image.items byte 0
+      tail_stays byte past = elim (cases_lt byte (length grown)) [
+        | inl below ↦ front byte past below ∙ get_or-padded old.image.items (whole_length plan.end) byte
+        | inr beyond ↦ get_or_past new.image.items byte 0 (let n = new_long in omega (arith, n, beyond)) ∙ sym (get_or_past old.image.items byte 0 (let g = grown_long in omega (arith, g, beyond)))
+      ]
 
   pub child_made : IsCore new × Creates old k name label new
   child_made = (made_core, made_child)

@@ -1,24 +1,30 @@
 -- A child created in one file is a group of one edit among all files.
-use Rattle.std.proofs.Common.{◌≡◌, ◌≢◌, inl, ℕ, List, [], ◌∷◌, refl, sym, ◌∙◌, ap, subst, arith, Bool, true, false, not}
-use Rattle.std.specs.Prelude.{Option, Some, None, Result, Ok, Err, ◌||◌}
+use Rattle.std.proofs.Common.{◌≡◌, ◌≢◌, ◌⊎◌, inl, inr, ℕ, zero, suc, ◌<◌, List, [], ◌∷◌, refl, sym, ◌∙◌, ap, subst, arith, Bool, true, false, not}
+use Rattle.std.specs.Prelude.{Option, Some, None, IsSome, is_some, Result, Ok, Err, ◌||◌, slice_get, if◌then◌else◌}
 use Rattle.adf_format.specs.Tree.{Tree, node_at, is_live, is_link_in}
 use Rattle.adf_model.specs.declared.error.AdfError.{AdfError}
 use Rattle.adf_model.specs.declared.error.AdfError.TheVariants.{Memory, ReadFault, WriteFault, NoSuchNode, LinkMissing, ReadOnly, Full}
 use Rattle.adf_model.specs.declared.tree.Edit.{Edit}
 use Rattle.adf_model.specs.declared.tree.NodeId.{NodeId}
 use Rattle.adf_model.specs.Tests.{first_refusal, checked, and_then}
-use Rattle.adf_model.specs.Edits.{apply, file_step, at_edit}
-use Rattle.adf_model.specs.Slots.{Open, Slot, Files, Device, Devices, device_at, slot_at, open_of, open_at, with_slot, is_gone, IsTold}
+use Rattle.adf_model.specs.Edits.{apply, file_step, at_edit, named_nodes, followed}
+use Rattle.adf_model.specs.Slots.{Open, Slot, Standing, standing_of, standings, names_there, Files, Device, Devices, device_at, slot_at, open_of, open_at, with_slot, is_gone, IsTold}
 use Rattle.adf_model.specs.Slots.Slot.{Live}
-use Rattle.adf_model.specs.Calls.{Group, tests_at_entry, resolve, group_of, group_after, edit_reached, group_step, group_from, edit_group}
-use Rattle.adf_model.specs.Steps.{NoneFell, IsEdit, Refused}
-use Rattle.adf_model.proofs.Basics.{not_true}
+use Rattle.adf_model.specs.Calls.{Group, tests_of_files, tests_at_entry, resolve, group_of, group_after, edit_reached, group_step, group_from, edit_group}
+use Rattle.adf_model.specs.Steps.{NoneFell, Edited, StopsAt, Refused, MayEdit, HasCauseOf, is_foreign_to_edits, Changed}
+use Rattle.adf_model.specs.Causes.{EntersFiles, RefusalLeaves, IsIndex, ChangedAnyway}
+use Rattle.adf_model.specs.Runs.{EditsTold, IsToldFor}
+use Rattle.session.specs.Calls.{PlainStops, PlainStep}
+use Rattle.adf_model.proofs.StandingLaws.{standings_with, names_with}
+use Rattle.adf_model.proofs.GroupStands.{told_group, told_names}
+use Rattle.plain_library.proofs.Entries.{passed_files, refused_files, lacks_memory, tree_refused}
+use Rattle.adf_model.proofs.Basics.{not_true, not_there, same_Some}
 use Rattle.adf_model.proofs.OneFileLaws.{in_its_file}
 use Rattle.plain_library.proofs.FirstOf.{refused_by}
-use Rattle.plain_library.specs.Calls.{IsCreatedAt, KeepsAll, IsTreeRefusal, EntersAt, entry_tests, as_group}
+use Rattle.plain_library.specs.Calls.{IsCreatedAt, CreatedAt, BrokenAt, KeepsAll, IsTreeRefusal, EntersAt, entry_tests, as_group}
 use Rattle.plain_library.proofs.Among.{OneSet, set_there, same_files, others_read, all_read, others_placed, all_placed, read_same}
 use Rattle.plain_library.proofs.Asks.{HasNoLinks, is_there, same_tests}
-use Rattle.plain_library.proofs.Steps.{create_plain, tree_plain}
+use Rattle.plain_library.proofs.Steps.{create_plain, tree_plain, create_not_of_files, create_not_foreign, entry_not_foreign}
 
 same_open : (a o : Open) → a.writable ≡ o.writable → a.limit ≡ o.limit → a ≡ record o { tree = a.tree }
 same_open a o w l = ap (λ b. record a { writable = b }) w ∙ ap (λ n. record { tree = a.tree; writable = o.writable; limit = n }) l
@@ -83,32 +89,57 @@ module _ (files : Files) (before : Devices) (parent : NodeId) (name label : List
       placed = all_placed parent.file files before slot now after one (ap (λ (d : Device). d.placement) keeps.1);
     }
 
-    pub creating_among : (result : Result (List NodeId) AdfError) → IsTold files before → IsCreatedAt own (device_at before parent.file) parent name label result (device_at now parent.file) slot
-        → IsEdit files before (edit ∷ []) (as_group result) now after
-    creating_among (Ok created) told is = record {
+    abbrev edits : List Edit
+    edits = edit ∷ []
+
+    -- the file is open for editing, and no first edit of this kind names one
+    may_edit : (opened : Open) → EntersAt own parent opened → MayEdit files edits parent.file
+    may_edit opened enters = (ap standing_of enters.live ∙ ap (λ b. if b then Standing.Editing else Standing.Reading) enters.writable, tt)
+
+    pub done_among : (created : List NodeId) → (IsSome (device_at before parent.file).held → IsSome (device_at now parent.file).held) → CreatedAt own (device_at before parent.file) parent name label created (device_at now parent.file) slot
+        → Edited files before now edits created after
+    done_among created tells is = record {
       group = grouped is.opened is.enters plain is.after.tree;
       through = through is.opened is.enters plain is.after.tree is.made;
       made = is.serial;
       trees = one.made ∙ ap (with_slot files parent.file) (is.left_open ∙ ap Live (same_open is.after is.opened (is.same.0 ∙ sym is.enters.writable) is.same.1));
       others = others_read parent.file files before slot now after one fell;
       placed = others_placed parent.file files before slot now after one;
+      own = λ number e. subst (MayEdit files edits) (same_Some parent.file number e) (may_edit is.opened is.enters);
+      told = λ number e. subst (λ k. IsSome (device_at before k).held → IsSome (device_at now k).held) (same_Some parent.file number e) tells;
     }
-    creating_among (Err Memory) told is = kept (record { group = group_of files; before = refl; edit = edit; reached = refl }) is
-    creating_among (Err WriteFault) told is = record {
-      group = grouped is.opened is.enters plain is.after.tree;
-      through = through is.opened is.enters plain is.after.tree is.made;
-      index = refl;
-      number = parent.file;
-      file = refl;
-      broken = one.made ∙ ap (with_slot files parent.file) is.broken;
-      others = others_read parent.file files before slot now after one fell;
-      placed = others_placed parent.file files before slot now after one;
-      failed = is.failed;
-      opened = record is.opened { tree = is.after.tree };
-      live = ap open_of (set_there files parent.file (Live (record is.opened { tree = is.after.tree })) (ap is_gone is.enters.live));
+
+    pub stops_among : BrokenAt own (device_at before parent.file) parent name label (device_at now parent.file) slot → PlainStops files before now edits 1 after
+    stops_among is = record {
+      stop = record {
+        group = grouped is.opened is.enters plain is.after.tree;
+        through = through is.opened is.enters plain is.after.tree is.made;
+        index = refl;
+        number = parent.file;
+        file = refl;
+        broken = one.made ∙ ap (with_slot files parent.file) is.broken;
+        others = others_read parent.file files before slot now after one fell;
+        placed = others_placed parent.file files before slot now after one;
+        failed = is.failed;
+        own = may_edit is.opened is.enters;
+        was = is.opened;
+        entered = here is.opened is.enters plain;
+        opened = record is.opened { tree = is.after.tree };
+        live = ap open_of (set_there files parent.file (Live (record is.opened { tree = is.after.tree })) (ap is_gone is.enters.live));
+      };
       torn = is.torn;
     }
-    creating_among (Err (Full asked end)) told is = kept (record {
+
+    -- it is the first edit, and reached
+    first : StopsAt files edits 0
+    first = record { group = group_of files; before = refl; edit = edit; reached = refl }
+
+    pub creating_among : (result : Result (List NodeId) AdfError) → (IsSome (device_at before parent.file).held → IsSome (device_at now parent.file).held) → IsToldFor files before (Changed edits (as_group result))
+        → IsCreatedAt own (device_at before parent.file) parent name label result (device_at now parent.file) slot → PlainStep files before (Changed edits (as_group result)) now after
+    creating_among (Ok created) tells told is = done_among created tells is
+    creating_among (Err Memory) tells told is = kept first is
+    creating_among (Err WriteFault) tells told is = stops_among is
+    creating_among (Err (Full asked end)) tells told is = kept (record {
       exists = omega arith;
       group = grouped is.0.opened is.0.enters plain is.0.after.tree;
       through = through is.0.opened is.0.enters plain is.0.after.tree is.0.made;
@@ -116,7 +147,77 @@ module _ (files : Files) (before : Devices) (parent : NodeId) (name label : List
       file = refl;
       opened = is.0.opened;
       live = here is.0.opened is.0.enters plain;
-      over = let needed = is.0.needed (told parent.file (ap is_gone is.0.enters.live)) in omega (arith, needed);
+      over = let needed = is.0.needed (own_told told (ap is_gone is.0.enters.live)) in omega (arith, needed);
     }) is.1
-    creating_among (Err ReadFault) told is = absurd (not_true (tree_plain own parent name label ReadFault is.0))
-    creating_among (Err error) told is = kept (refused_so error plain is.0) is.1
+      where
+        own_told : IsTold files before ⊎ EditsTold files before edits → is_gone own ≡ false → IsSome (device_at before parent.file).held
+        own_told (inl all) there = all parent.file there
+        own_told (inr few) there = subst (λ k. IsSome (device_at before k).held) (sym few.stands.0.0) few.told
+    creating_among (Err ReadFault) tells told is = absurd (not_true (tree_plain own parent name label ReadFault is.0))
+    creating_among (Err error) tells told is = kept (refused_so error plain is.0) is.1
+
+    -- ---- whether devices tell or not
+
+    passes_first : (i : ℕ) (e : Edit) → i < 1 → slice_get edits i ≡ Some e → first_refusal (entry_tests own parent.serial) ≡ None → first_refusal (tests_of_files files (named_nodes e)) ≡ None
+    passes_first zero e lt at entered = subst (λ (x : Edit). first_refusal (tests_of_files files (named_nodes x)) ≡ None) (same_Some edit e at) (passed_files files parent entered)
+    passes_first (suc i) e lt at entered = absurd (omega (arith, lt))
+
+    -- a refusal of the one edit
+    at_first : (error : AdfError) → EntersFiles {A = Unit} files (parent ∷ []) true (Err error) → (e : Edit) → slice_get edits 0 ≡ Some e → EntersFiles {A = Unit} files (named_nodes e) (is_some (followed e)) (Err error)
+    at_first error enters e at = subst (λ (x : Edit). EntersFiles {A = Unit} files (named_nodes x) (is_some (followed x)) (Err error)) (same_Some edit e at) enters
+
+    refused_first : {Cause : Type 0} (error : AdfError) → (IsIndex edits 0 error) → Refused Cause files before now after → RefusalLeaves error files before edits now after → HasCauseOf files before now error → EntersFiles {A = Unit} files (parent ∷ []) true (Err error)
+        → ChangedAnyway {A = List NodeId} files before edits (Err (record { at = 0; error = error })) now after
+    refused_first error index kept leaves cause enters = record {
+      leaves = leaves;
+      names = ap names_there kept.files_stay;
+      entry = record { passed = λ i e lt at. absurd (none i lt); index = index; refused = at_first error enters };
+      cause = cause;
+    }
+      where
+        none : (i : ℕ) → i < 0 → ⊥
+        none i lt = omega (arith, lt)
+
+    entry_of : (error : AdfError) → IsTreeRefusal own parent name label (first_refusal (entry_tests own parent.serial)) error → EntersFiles {A = Unit} files (parent ∷ []) true (Err error)
+    entry_of error h = by_first (first_refusal (entry_tests own parent.serial)) refl h
+      where
+        by_first : (o : Option AdfError) → first_refusal (entry_tests own parent.serial) ≡ o → IsTreeRefusal own parent name label o error → EntersFiles {A = Unit} files (parent ∷ []) true (Err error)
+        by_first None e h = tree_refused files parent error e (create_not_of_files h.0.tree parent name label error h.2)
+        by_first (Some first) e h = refused_files files parent error (e ∙ ap Some (sym h))
+
+    own_cause : (error : AdfError) → IsTreeRefusal own parent name label (first_refusal (entry_tests own parent.serial)) error → is_foreign_to_edits error ≡ false
+    own_cause error h = by_first (first_refusal (entry_tests own parent.serial)) refl h
+      where
+        by_first : (o : Option AdfError) → first_refusal (entry_tests own parent.serial) ≡ o → IsTreeRefusal own parent name label o error → is_foreign_to_edits error ≡ false
+        by_first None e h = create_not_foreign h.0.tree parent name label error h.2
+        by_first (Some first) e h = ap is_foreign_to_edits h ∙ entry_not_foreign own parent.serial first e
+
+    pub creating_anyway : (result : Result (List NodeId) AdfError) → (IsSome (device_at before parent.file).held → IsSome (device_at now parent.file).held) → IsCreatedAt own (device_at before parent.file) parent name label result (device_at now parent.file) slot
+        → ChangedAnyway files before edits (as_group result) now after
+    unfolding stops_among
+    creating_anyway (Ok created) tells is =
+        let h = done_among created tells is in
+        record {
+          leaves = told_group files after before now edits (Ok created) h;
+          names = told_names files after before now edits (Ok created) h;
+          entry = record { passed = λ i e lt at. passes_first i e lt at is.enters.entered; index = tt; refused = tt };
+          cause = tt;
+        }
+    creating_anyway (Err Memory) tells is =
+        let k = kept first is in
+        refused_first Memory (omega arith) k (ap standings k.files_stay, k.devices_stay, k.placed) refl (lacks_memory files parent)
+    creating_anyway (Err WriteFault) tells is =
+        let h = (stops_among is).stop in
+        record {
+          leaves = record { number = h.number; own = h.own; others = h.others; placed = h.placed; failed = h.failed; standing = ap standings h.broken ∙ standings_with files h.number Slot.Broken };
+          names = ap names_there h.broken ∙ names_with files parent.file Slot.Broken (sym (ap is_gone is.enters.live));
+          entry = record { passed = λ i e lt at. passes_first i e lt at is.enters.entered; index = refl; refused = λ e at. absurd (not_there e at) };
+          cause = refl;
+        }
+    creating_anyway (Err (Full asked end)) tells is =
+        let k = kept first is.1 in
+        refused_first (Full asked end) (omega arith) k (ap standings k.files_stay, k.devices_stay, k.placed) refl (tree_refused files parent (Full asked end) is.0.enters.entered refl)
+    creating_anyway (Err ReadFault) tells is = absurd (not_true (tree_plain own parent name label ReadFault is.0))
+    creating_anyway (Err error) tells is =
+        let k = kept first is.1 in
+        refused_first error (omega arith) k (ap standings k.files_stay, k.devices_stay, k.placed) (own_cause error is.0) (entry_of error is.0)

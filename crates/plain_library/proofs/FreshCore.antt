@@ -1,12 +1,11 @@
 -- The fresh file in memory.
 use Rattle.std.proofs.Common.{◌≡◌, ℕ, false, [], ◌∷◌, length, zero, suc, refl, sym, ◌∙◌, ap, subst, arith}
 use Rattle.std.specs.Prelude.{Some, slice_get, ◌≤◌, ◌^◌}
-use Rattle.adf_format.specs.Fresh.{fresh_placement}
+use Rattle.adf_format.specs.Fresh.{fresh_placement, fresh_block}
 use Rattle.adf_format.specs.Tree.{Tree, fresh_tree, depth_of, lineage}
 use Rattle.plain_library.specs.declared.open_file.Row.{Row}
 use Rattle.plain_library.specs.declared.open_file.Core.{Core}
 use Rattle.plain_library.specs.Core.{IsCore, core_tree, core_placement, tree_of, HasDepths}
-use Rattle.plain_library.specs.Fresh.{fresh_block}
 use Rattle.plain_library.proofs.FreshFile.{block_holds, block_long}
 
 root_depth : depth_of (fresh_tree false) 0 ≡ 0
@@ -17,7 +16,7 @@ depths : (row : Row) (tree : Tree) → tree ≡ fresh_tree false → row.depth �
 depths row tree is none zero r at = search (is, none, at, root_depth)
 depths row tree is none (suc k) r at = absurd cc
 
-pub fresh_core : (core : Core) (row : Row) → core.rows.items ≡ row ∷ [] → core.image.items ≡ fresh_block → core_tree core ≡ fresh_tree false → core_placement core ≡ fresh_placement false → row.depth ≡ 0
+pub fresh_core : (core : Core) (row : Row) → core.rows.items ≡ row ∷ [] → core.image.items ≡ fresh_block false → core_tree core ≡ fresh_tree false → core_placement core ≡ fresh_placement false → row.depth ≡ 0
     → (1 ≤ core.limit) × (core.limit ≤ 2 ^ 32) → IsCore core
 fresh_core core row one image tree placed none limited = record {
   laid_out = rw (image, tree, placed) block_holds;

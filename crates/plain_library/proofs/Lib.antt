@@ -17,10 +17,11 @@ pub mod CreatedCore
 pub mod FirstOf
 pub mod Among
 pub mod Steps
-pub mod Asks
+mod Asks
 pub mod NoLinks
 pub mod Creates
 pub mod Room
 pub mod SlotSteps
 pub mod OpenedSlot
 pub mod LibrarySteps
+pub mod Entries

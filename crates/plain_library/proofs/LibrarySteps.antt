@@ -8,16 +8,18 @@ use Rattle.adf_model.specs.declared.tree.Edit.{Edit}
 use Rattle.adf_model.specs.declared.tree.NodeId.{NodeId}
 use Rattle.adf_model.specs.declared.tree.Query.{Query}
 use Rattle.adf_model.specs.declared.tree.Reply.{Reply}
-use Rattle.adf_model.specs.Slots.{Files, Devices, device_at, slot_at, is_gone, no_device, IsTold}
-use Rattle.adf_model.specs.Steps.{Opened, Closed, Asked, Fresh, Step, NoneFell, NoCountFell, OnlyRead, AllLaidOut, IsEdit}
+use Rattle.adf_model.specs.Slots.{Files, Devices, device_at, slot_at, is_gone, no_device}
+use Rattle.adf_model.specs.Steps.{Opened, Closed, Asked, Changed, Fresh, NoneFell, OnlyRead, IsLaidOutAt}
+use Rattle.adf_model.specs.Runs.{KeepsLayouts}
+use Rattle.adf_model.proofs.StandingLaws.{opening_anyway, closing_anyway}
 use Rattle.cg_io.specs.Device.{DeviceState}
-use Rattle.session.specs.Calls.{names_there}
+use Rattle.session.specs.Calls.{PlainMakes}
 use Rattle.plain_library.specs.declared.shelf.Slot.{Slot}
-use Rattle.plain_library.specs.Calls.{IsOpenedAt, IsClosedAt, IsAskedAt, IsCreatedAt, IsLaidOutAt, as_group}
+use Rattle.plain_library.specs.Calls.{IsOpenedAt, IsClosedAt, IsAskedAt, IsCreatedAt, as_group}
 use Rattle.plain_library.specs.Library.{file_in, device_in, device_by, placement_in, IsReadySlot}
-use Rattle.plain_library.proofs.Among.{OneSet, told_among, laid_among, counts_among, names_among, slot_here, device_here, device_now, slot_changed, read_same}
-use Rattle.plain_library.proofs.Asks.{HasNoLinks, asking_among}
-use Rattle.plain_library.proofs.Creates.{creating_among}
+use Rattle.plain_library.proofs.Among.{OneSet, layouts_among, slot_here, device_here, device_now, slot_changed, read_same}
+use Rattle.plain_library.proofs.Asks.{HasNoLinks, asking_among, asking_anyway}
+use Rattle.plain_library.proofs.Creates.{creating_among, creating_anyway}
 use Rattle.plain_library.proofs.NoLinks.{no_links}
 use Rattle.plain_library.proofs.SlotLaws.{All-set}
 use Rattle.plain_library.proofs.Steps.{opening_among, closing_among}
@@ -62,42 +64,47 @@ module _ {D : Type 0} (state : D → DeviceState) (slots : List (Slot D)) (n : �
   device_left : device_at now n ≡ device_in state new
   device_left = device_now state slots n old new within is
 
-  pub told_in : (IsSome (device_in state old).held → IsSome (device_in state new).held) → IsTold files before → IsTold after now
-  told_in keeps = told_among n files before (file_in new).slot now after one inside (gone ∙ ap is_gone (sym own)) (rw (device, device_left) keeps)
-
-  pub laid_in : (IsLaidOutAt (file_in old).slot (device_in state old) → IsLaidOutAt (file_in new).slot (device_in state new)) → AllLaidOut files before → AllLaidOut after now
-  laid_in keeps = laid_among n files before (file_in new).slot now after one inside (rw (own, device, device_left) keeps)
+  pub layouts_in : (IsSome (device_in state old).held → IsSome (device_in state new).held) → (IsLaidOutAt (file_in old).slot (device_in state old) → IsLaidOutAt (file_in new).slot (device_in state new)) → KeepsLayouts files before now after
+  layouts_in tells lays = layouts_among n files before (file_in new).slot now after one inside (gone ∙ ap is_gone (sym own)) (rw (device, device_left) tells) (rw (own, device, device_left) lays)
 
   fell_in : NoneFell (device_in state old) (device_in state new) → NoneFell (device_at before n) (device_at now n)
   fell_in fell = rw (device, device_left) fell
-
-  pub counts_in : NoneFell (device_in state old) (device_in state new) → NoCountFell before now
-  counts_in fell = counts_among n files before (file_in new).slot now after one (fell_in fell)
-
-  pub names_in : names_there after ≡ names_there files
-  names_in = names_among state slots n old new within is name gone
 
   pub ready_in : IsReadySlot state new → All (IsReadySlot state) slots × (length slots < 2 ^ 32) → All (IsReadySlot state) (set slots n new) × (length (set slots n new) < 2 ^ 32)
   ready_in ready all = (All-set (IsReadySlot state) slots n new all.0 ready, let l = length-set slots n new in omega (arith, l, all.1))
 
   pub opening_in : (limit : ℕ) (result : Result Unit AdfError) → IsOpenedAt (file_in old).slot (device_in state old) limit result (device_in state new) (file_in new).slot
-      → OnErr result ((device_in state new).placement ≡ (device_in state old).placement) → NoneFell (device_in state old) (device_in state new) → Step files before (Opened n (Fresh false) limit result) now after
-  opening_in limit result opened placed fell =
-      opening_among files before now n limit (file_in new).slot result after one (rw (own, device, device_left) opened) (rw (device, device_left) placed) (fell_in fell)
+      → OnErr result ((device_in state new).placement ≡ (device_in state old).placement) → NoneFell (device_in state old) (device_in state new) → KeepsLayouts files before now after
+      → PlainMakes files before (Opened n (Fresh false) limit result) now after
+  opening_in limit result opened placed fell layouts =
+      let step = opening_among files before now n limit (file_in new).slot result after one (rw (own, device, device_left) opened) (rw (device, device_left) placed) (fell_in fell) in
+      record { step = λ told. step; layouts = layouts; anyway = opening_anyway files after before now n limit (Fresh false) result step.0 step.1 }
 
   pub closing_in : (result : Result Unit AdfError) → IsClosedAt (file_in old).slot result (file_in new).slot → OnErr result ((device_in state new).placement ≡ (device_in state old).placement)
-      → new.device ≡ old.device → Step files before (Closed n result) now after
-  closing_in result closed placed same =
-      closing_among files before now n (file_in new).slot result after one (rw own closed) (rw (device, device_left) placed) (rw (device, device_left) (stayed state old new same))
+      → new.device ≡ old.device → KeepsLayouts files before now after → PlainMakes files before (Closed n result) now after
+  closing_in result closed placed same layouts =
+      let step = closing_among files before now n (file_in new).slot result after one (rw own closed) (rw (device, device_left) placed) (rw (device, device_left) (stayed state old new same)) in
+      record { step = λ told. step; layouts = layouts; anyway = closing_anyway files after before now n result step.0 step.1 step.2 }
 
   plain : HasNoLinks (slot_at files n)
   plain = rw own (no_links old)
 
-  pub asking_in : (serial : ℕ) (result : Result Reply AdfError) → IsAskedAt (file_in old).slot (record { file = n; serial = serial }) result → Step files before (Asked (Query.ChildrenOf (record { file = n; serial = serial })) result) before files
-  asking_in serial result asked = asking_among files before (record { file = n; serial = serial }) result plain (rw own asked)
+  pub asking_in : (serial : ℕ) (result : Result Reply AdfError) → IsAskedAt (file_in old).slot (record { file = n; serial = serial }) result → PlainMakes files before (Asked (Query.ChildrenOf (record { file = n; serial = serial })) result) before files
+  asking_in serial result asked =
+      let node : NodeId = record { file = n; serial = serial } in
+      record {
+        step = λ told. asking_among files before node result plain (rw own asked);
+        layouts = record { told = λ k h. h; laid_out = λ k h. h };
+        anyway = asking_anyway files before node result plain (rw own asked);
+      }
 
-  pub creating_in : (serial : ℕ) (name label : List ℕ) (result : Result (List NodeId) AdfError) → IsTold files before
+  pub creating_in : (serial : ℕ) (name label : List ℕ) (result : Result (List NodeId) AdfError) → (IsSome (device_in state old).held → IsSome (device_in state new).held)
       → IsCreatedAt (file_in old).slot (device_in state old) (record { file = n; serial = serial }) name label result (device_in state new) (file_in new).slot → NoneFell (device_in state old) (device_in state new)
-      → IsEdit files before (Edit.Create (record { file = n; serial = serial }) name label ∷ []) (as_group result) now after
-  creating_in serial name label result told created fell =
-      creating_among files before (record { file = n; serial = serial }) name label now (file_in new).slot after one (fell_in fell) plain result told (rw (own, device, device_left) created)
+      → KeepsLayouts files before now after → PlainMakes files before (Changed (Edit.Create (record { file = n; serial = serial }) name label ∷ []) (as_group result)) now after
+  creating_in serial name label result tells created fell layouts =
+      let node : NodeId = record { file = n; serial = serial } in
+      record {
+        step = λ told. creating_among files before node name label now (file_in new).slot after one (fell_in fell) plain result (rw (device, device_left) tells) told (rw (own, device, device_left) created);
+        layouts = layouts;
+        anyway = creating_anyway files before node name label now (file_in new).slot after one (fell_in fell) plain result (rw (device, device_left) tells) (rw (own, device, device_left) created);
+      }

@@ -1,12 +1,14 @@
 -- What the opening of a fresh file makes of its slot.
-use Rattle.std.proofs.Common.{◌≡◌, ◌≢◌, inl, inr, ℕ, ◌+◌, ◌*◌, ◌≤◌, max, List, [], length, length-take, refl, sym, ◌∙◌, ap, subst, arith, true, false}
-use Rattle.std.specs.Prelude.{Option, Some, None, IfSome, IsSome, OnErr, Result, Ok, Err, is_some}
+use Rattle.std.proofs.Common.{◌≡◌, ◌≢◌, ◌⊎◌, inl, inr, ℕ, ◌+◌, ◌*◌, ◌≤◌, max, List, [], length, length-take, refl, sym, ◌∙◌, ap, subst, arith, true, false}
+use Rattle.std.specs.Prelude.{Option, Some, None, IfSome, IsSome, option_map, OnErr, Result, Ok, Err, is_some}
 use Rattle.adf_format.specs.Tree.{Tree, fresh_tree}
 use Rattle.adf_model.specs.declared.error.AdfError.{AdfError}
 use Rattle.adf_model.specs.declared.error.AdfError.TheVariants.{NotEmpty, ReadFault, WriteFault}
 use Rattle.adf_model.specs.Slots.{Open, Device, no_device, is_gone, is_open}
 use Rattle.adf_model.specs.Slots as model
-use Rattle.adf_model.specs.Steps.{IsLaidOut, IsFirstOr, IsOpenRefusal, Fresh, OnlyRead, TornAt}
+use Rattle.adf_model.specs.Torn.{TornAt}
+use Rattle.adf_model.specs.Steps.{IsLaidOut, IsFirstOr, IsOpenRefusal, LeavesFresh, Fresh, OnlyRead}
+use Rattle.std.proofs.lemmas.Bool.{cases_lt}
 use Rattle.adf_model.proofs.Basics.{not_true}
 use Rattle.cg_io.specs.Cause.{raised}
 use Rattle.cg_io.specs.Device.{DeviceState, overwritten, with_block, Tears, IsTorn}
@@ -16,12 +18,13 @@ use Rattle.plain_library.specs.declared.open_file.Work.TheVariants as work
 use Rattle.plain_library.specs.declared.open_file.Core.{Core}
 use Rattle.plain_library.specs.Calls.{IsOpenedAt, open_refusal}
 use Rattle.plain_library.specs.Committing.{NoCountFell}
-use Rattle.plain_library.specs.Core.{IsCore, core_tree}
+use Rattle.plain_library.specs.Core.{IsCore, core_tree, core_placement}
 use Rattle.plain_library.specs.Fresh as fresh
-use Rattle.plain_library.specs.Fresh.{fresh_block, MakesFresh, WritesFirst}
+use Rattle.adf_format.specs.Fresh.{fresh_block, fresh_placement}
+use Rattle.plain_library.specs.Fresh.{MakesFresh, WritesFirst}
 use Rattle.plain_library.specs.Library.{IsReadyWork, placed_device, placement_in, slot_in, opened_work}
 use Rattle.plain_library.proofs.BlockLaws.{torn_other, as_block}
-use Rattle.plain_library.proofs.SlotSteps.{fresh_held, open_laid}
+use Rattle.plain_library.proofs.SlotSteps.{over_nothing, fresh_held, open_laid}
 
 pub never_gone : (kept : Work) → is_gone (slot_in kept) ≡ false
 never_gone work.Idle = refl
@@ -57,7 +60,7 @@ torn_told None new tears some = absurd (not_true some)
 torn_told (Some old) None tears some = absurd tears
 torn_told (Some old) (Some new) tears some = refl
 
-block_told : (old new : Option (List ℕ)) → new ≡ with_block old 0 fresh_block → IsSome old → IsSome new
+block_told : (old new : Option (List ℕ)) → new ≡ with_block old 0 (fresh_block false) → IsSome old → IsSome new
 block_told None new made some = absurd (not_true some)
 block_told (Some old) new made some = ap is_some made
 
@@ -68,12 +71,17 @@ torn_alone old new is = record {
   unwritten = λ k lt. as_block new k ∙ torn_other old new k 0 (λ e. absurd (omega (arith, e, lt))) is ∙ sym (as_block old k);
   kept = (size is).0;
   grown = (size is).1;
+  whole = sized is;
 }
   where
     size : IsTorn old 0 new → (length old ≤ length new) × (length new ≤ max (length old) (1 * 4096))
     size (piece, wide, inl is) = let e = ap length is in let o = length-overwritten old 0 piece in (omega (arith, e, o, wide), omega (arith, e, o, wide))
     size (piece, wide, inr is) =
         let e = ap length is in let o = length-overwritten old 0 piece in let t = length-take (length old) (overwritten old 0 piece) in (omega (arith, e, o, t, wide), omega (arith, e, o, t, wide))
+
+    sized : IsTorn old 0 new → (length new ≡ length old) ⊎ ((blocks : ℕ) × (length new ≡ blocks * 4096))
+    sized (piece, wide, inl is) = let e = ap length is in let o = length-overwritten old 0 piece in elim (cases_lt (length old) 4096) [ inl short ↦ inr (1, omega (arith, e, o, wide, short)) | inr long ↦ inl (omega (arith, e, o, wide, long)) ]
+    sized (piece, wide, inr is) = let e = ap length is in let o = length-overwritten old 0 piece in let t = length-take (length old) (overwritten old 0 piece) in inl (omega (arith, e, o, t, wide))
 
 -- what a closed file is laid out by does not hang on the device's counts
 same_laid : (kept : Work) (old new : DeviceState) → is_open (slot_in kept) ≡ false → new.held ≡ old.held → IsLaidOut (slot_in kept) (placed_device (placement_in kept) old) old.held → IsLaidOut (slot_in kept) (placed_device (placement_in kept) new) new.held
@@ -86,7 +94,12 @@ same_laid (work.Saved rows) old new shut same laid = by_held old.held new.held s
 same_laid (work.Open core) old new shut same laid = absurd (not_true (sym shut))
 same_laid work.Broken old new shut same laid = tt
 
-module _ (core : Core) (kept : Work) (old new : DeviceState) (limit : ℕ) (is : IsCore core) (tree : core_tree core ≡ fresh_tree false) (image : core.image.items ≡ fresh_block) (bound : core.limit ≡ limit) (shut : is_open (slot_in kept) ≡ false) (counts : NoCountFell old new) where
+-- the device holds the first block then, where it tells
+fresh_leaves : (held later : Option (List ℕ)) → IfSome held (λ bytes. bytes ≡ []) → later ≡ with_block held 0 (fresh_block false) → later ≡ option_map (λ (none : List ℕ). fresh_block false) held
+fresh_leaves None later empty made = made
+fresh_leaves (Some bytes) later empty made = made ∙ ap (λ (l : List ℕ). Some (overwritten l 0 (fresh_block false))) empty ∙ ap Some over_nothing
+
+module _ (core : Core) (kept : Work) (old new : DeviceState) (limit : ℕ) (is : IsCore core) (tree : core_tree core ≡ fresh_tree false) (placed : core_placement core ≡ fresh_placement false) (image : core.image.items ≡ fresh_block false) (bound : core.limit ≡ limit) (shut : is_open (slot_in kept) ≡ false) (counts : NoCountFell old new) where
   abbrev own : model.Slot
   own = slot_in kept
 
@@ -114,6 +127,7 @@ module _ (core : Core) (kept : Work) (old new : DeviceState) (limit : ℕ) (is :
     ap model.Slot.Live (ap (λ (t : Tree). record { tree = t; writable = true; limit = core.limit }) tree ∙ ap (λ n. record { tree = fresh_tree false; writable = true; limit = n }) bound),
     λ one told. told_empty one m.0.0.empty told,
     once m.0.0.writes,
+    (fresh_leaves old.held new.held m.0.0.empty m.0.1, placed),
   )
   opened_at (Err NotEmpty) m = (
     refused_for NotEmpty (placed_device (placement_in kept) new) (λ one told. subst (λ (h : Option (List ℕ)). IfSome h (λ bytes. bytes ≢ [])) told m.0.0),

@@ -1,5 +1,5 @@
 -- What opening, closing and creating make of one slot.
-use Rattle.std.proofs.Common.{◌≡◌, ◌⊎◌, inl, inr, ℕ, zero, suc, ◌+◌, ◌<◌, ◌≤◌, List, [], ◌∷◌, ◌++◌, length, take, drop, refl, sym, ◌∙◌, ap, subst, arith, append-nil, Bool, true, false, not}
+use Rattle.std.proofs.Common.{◌≡◌, ◌⊎◌, inl, inr, ℕ, zero, suc, ◌+◌, ◌*◌, ◌<◌, ◌≤◌, List, [], ◌∷◌, ◌++◌, length, take, drop, refl, sym, ◌∙◌, ap, subst, arith, append-nil, Bool, true, false, not}
 use Rattle.std.specs.Prelude.{Option, Some, None, IfSome, option_map, Result, Ok, Err, slice_get}
 use Rattle.adf_format.specs.Tree.{is_live, numbered}
 use Rattle.adf_format.specs.LaysOut.{LaysOut}
@@ -12,7 +12,9 @@ use Rattle.adf_model.specs.Edits.{create_tests, with_new, new_node}
 use Rattle.adf_model.specs.Placing.{numbered_placement}
 use Rattle.adf_model.specs.Slots.{Open, Device, no_device}
 use Rattle.adf_model.specs.Slots as model
-use Rattle.adf_model.specs.Steps.{IsLaidOut, Torn, TornAt}
+use Rattle.adf_model.specs.Steps.{IsLaidOut, IsLaidOutAt}
+use Rattle.adf_model.specs.Torn.{Torn, TornAt}
+use Rattle.adf_model.specs.Untouched.{KeepsTail}
 use Rattle.adf_model.proofs.LayoutLemmas.{end_of_open}
 use Rattle.adf_model.proofs.NumberedLaidOut.{numbered_laid_out}
 use Rattle.plain_library.proofs.FirstOf.{passed_by, refused_by}
@@ -20,11 +22,12 @@ use Rattle.cg_io.specs.Device.{DeviceState, padded, overwritten, with_block}
 use Rattle.plain_library.specs.declared.open_file.Work.TheVariants as work
 use Rattle.plain_library.specs.declared.open_file.Row.{Row}
 use Rattle.plain_library.specs.declared.open_file.Core.{Core}
-use Rattle.plain_library.specs.Calls.{IsLaidOutAt, IsCreatedAt, CreatedAt, BrokenAt, FullAt, EntersAt, IsTreeRefusal, KeepsAll, entry_tests}
-use Rattle.plain_library.specs.Committing.{FailedWrite, LeavesTorn}
+use Rattle.plain_library.specs.Calls.{IsCreatedAt, CreatedAt, BrokenAt, FullAt, EntersAt, IsTreeRefusal, KeepsAll, entry_tests}
+use Rattle.plain_library.specs.Committing.{has_changed, FailedWrite, LeavesTorn}
+use Rattle.plain_library.proofs.BlockLaws.{changed_before_end}
 use Rattle.plain_library.specs.Core.{IsCore, core_tree, core_placement, placement_of, tree_of}
 use Rattle.plain_library.specs.Creating.{Creates, Stays, IsRefusal, IsFull}
-use Rattle.plain_library.specs.Fresh.{fresh_block}
+use Rattle.adf_format.specs.Fresh.{fresh_block}
 use Rattle.plain_library.specs.Library.{IsReadyWork, file_by, device_by, placed_device, placement_in, slot_in, created_work}
 use Rattle.plain_library.proofs.Rows.{all_drawn}
 use Rattle.plain_library.proofs.Room.{needs_more}
@@ -42,16 +45,16 @@ drop_none zero none is = is
 drop_none (suc n) [] is = refl
 drop_none (suc n) (x ∷ xs) is = absurd cc
 
-over_nothing : overwritten [] 0 fresh_block ≡ fresh_block
+pub over_nothing : overwritten [] 0 (fresh_block false) ≡ fresh_block false
 unfolding overwritten
 over_nothing =
-    ap (λ (front : List ℕ). front ++ (fresh_block ++ drop (0 + length fresh_block) [])) (take_none (padded [] 0))
-    ∙ ap (λ (rest : List ℕ). fresh_block ++ rest) (drop_none (0 + length fresh_block) [] refl) ∙ append-nil fresh_block
+    ap (λ (front : List ℕ). front ++ (fresh_block false ++ drop (0 + length (fresh_block false)) [])) (take_none (padded [] 0))
+    ∙ ap (λ (rest : List ℕ). fresh_block false ++ rest) (drop_none (0 + length (fresh_block false)) [] refl) ∙ append-nil (fresh_block false)
 
-pub fresh_held : (held later : Option (List ℕ)) (image : List ℕ) → image ≡ fresh_block → IfSome held (λ bytes. bytes ≡ []) → later ≡ with_block held 0 fresh_block → IfSome later (λ bytes. bytes ≡ image)
+pub fresh_held : (held later : Option (List ℕ)) (image : List ℕ) → image ≡ fresh_block false → IfSome held (λ bytes. bytes ≡ []) → later ≡ with_block held 0 (fresh_block false) → IfSome later (λ bytes. bytes ≡ image)
 fresh_held None later image is none made = subst (λ (h : Option (List ℕ)). IfSome h (λ bytes. bytes ≡ image)) (sym made) tt
 fresh_held (Some bytes) later image is none made =
-    subst (λ (h : Option (List ℕ)). IfSome h (λ bytes. bytes ≡ image)) (sym made) (ap (λ (l : List ℕ). overwritten l 0 fresh_block) none ∙ over_nothing ∙ sym is)
+    subst (λ (h : Option (List ℕ)). IfSome h (λ bytes. bytes ≡ image)) (sym made) (ap (λ (l : List ℕ). overwritten l 0 (fresh_block false)) none ∙ over_nothing ∙ sym is)
 
 -- ---- layouts
 
@@ -120,15 +123,16 @@ module _ (old new : Core) (parent : NodeId) (name label : List ℕ) (within : pa
     torn = λ one other told told_now. by_bytes one other (subst (λ (h : Option (List ℕ)). IfSome h (λ bytes. bytes ≡ old.image.items)) told held) (subst (λ (h : Option (List ℕ)). LeavesTorn old.image.items new.image.items h) told_now torn);
   }
     where
-      by_bytes : (one other : List ℕ) → one ≡ old.image.items → ((number : ℕ) × TornAt number old.image.items new.image.items other) → Torn one other (core_tree new)
+      by_bytes : (one other : List ℕ) → one ≡ old.image.items → ((number : ℕ) × (has_changed old.image.items new.image.items number ≡ true) × (number * 4096 + 4096 ≤ length new.image.items) × TornAt number old.image.items new.image.items other)
+          → Torn one other (core_tree new)
       by_bytes one other same torn = record {
         wanted = new.image.items;
         placement = core_placement new;
         laid_out = core.laid_out;
-        longer = subst (λ (l : List ℕ). length l ≤ length new.image.items) (sym same) creates.longer;
-        tail = λ byte past lt. creates.behind byte past (subst (λ (l : List ℕ). byte < length l) same lt) ∙ ap (λ (l : List ℕ). slice_get l byte) (sym same);
+        tail = subst (λ (l : List ℕ). KeepsTail new.end l new.image.items) (sym same) creates.tail;
         number = torn.0;
-        torn = subst (λ (l : List ℕ). TornAt torn.0 l new.image.items other) (sym same) torn.1;
+        within = changed_before_end old.image.items new.image.items new.end torn.0 torn.1 torn.2 creates.reach creates.tail.tail;
+        torn = subst (λ (l : List ℕ). TornAt torn.0 l new.image.items other) (sym same) torn.3;
       }
 
 -- ---- a child that is refused

@@ -10,7 +10,8 @@ use Rattle.adf_model.specs.declared.tree.Reply.{Reply}
 use Rattle.adf_model.specs.Tests.{Test, first_refusal, checked}
 use Rattle.adf_model.specs.Edits.{apply, create_tests, with_new, new_node}
 use Rattle.adf_model.specs.Slots.{Slot, Files, Device, Devices, device_at, slot_at, with_slot, is_gone, is_open}
-use Rattle.adf_model.specs.Steps.{Opened, Closed, Fresh, Step, NoneFell, OnlyRead, IsFirstOr}
+use Rattle.adf_model.specs.Steps.{Opened, Closed, Fresh, Step, NoneFell, OnlyRead, IsFirstOr, is_foreign_to_edits}
+use Rattle.plain_library.proofs.Entries.{is_of_files}
 use Rattle.adf_model.proofs.Basics.{not_true, not_there, not_Err, same_Some}
 use Rattle.call_script.specs.Replies.{HasRule}
 use Rattle.plain_library.specs.Calls.{IsOpenedAt, IsClosedAt, IsAskedAt, IsCreatedAt, IsTreeRefusal, entry_tests, as_group, open_refusal, fresh_open}
@@ -22,7 +23,7 @@ pub opening_among : (files : Files) (before now : Devices) (n limit : ℕ) (slot
     → IsOpenedAt (slot_at files n) (device_at before n) limit result (device_at now n) slot → OnErr result ((device_at now n).placement ≡ (device_at before n).placement) → NoneFell (device_at before n) (device_at now n)
     → Step files before (Opened n (Fresh false) limit result) now after
 opening_among files before now n limit slot (Ok done) after one is placed fell =
-    ((fresh_open limit, is.0, refl, (refl, refl, is.2), one.made ∙ ap (with_slot files n) is.1, (others_read n files before slot now after one fell, is.3)), others_placed n files before slot now after one)
+    ((fresh_open limit, is.0, refl, (refl, refl, is.2), one.made ∙ ap (with_slot files n) is.1, (others_read n files before slot now after one fell, is.3), is.4), others_placed n files before slot now after one)
 opening_among files before now n limit slot (Err Memory) after one is placed fell =
     ((same_files n files before slot now after one is.0, all_read n files before slot now after one is.1), all_placed n files before slot now after one placed)
 opening_among files before now n limit slot (Err WriteFault) after one is placed fell =
@@ -70,16 +71,33 @@ entry_plain own serial error e = first_of_kind is_plain (entry_tests own serial)
 same_error : {A : Type 0} (one other : AdfError) → ◌≡◌ {A = Result A AdfError} (Err one) (Err other) → one ≡ other
 same_error {A = A} one other e = ap (λ (r : Result A AdfError). elim r [ Ok a ↦ one | Err x ↦ x ]) e
 
-pub create_plain : (tree : Tree) (parent : NodeId) (name label : List ℕ) (error : AdfError) → apply tree (Edit.Create parent name label) ≡ Err error → is_plain error ≡ true
-create_plain tree parent name label error e = by_tests (create_tests tree parent.serial name label) (with_new tree parent.serial (new_node name label)) (refl, (refl, (refl, (refl, (refl, (refl, tt)))))) e
+-- the errors of a creation are those of its tests
+create_of_kind : (kind : AdfError → Bool) (tree : Tree) (parent : NodeId) (name label : List ℕ) (error : AdfError) → AreAll kind (create_tests tree parent.serial name label) → apply tree (Edit.Create parent name label) ≡ Err error → kind error ≡ true
+create_of_kind kind tree parent name label error all e = by_tests (create_tests tree parent.serial name label) (with_new tree parent.serial (new_node name label)) all e
   where
-    by_tests : (tests : List Test) (made : Tree) → AreAll is_plain tests → checked tests (Ok made) ≡ Err error → is_plain error ≡ true
+    by_tests : (tests : List Test) (made : Tree) → AreAll kind tests → checked tests (Ok made) ≡ Err error → kind error ≡ true
     by_tests [] made all e = absurd (not_Err (sym e))
     by_tests (test ∷ tests) made all e = by_test test.0 (by_tests tests made all.1) e
       where
-        by_test : (b : Bool) → (checked tests (Ok made) ≡ Err error → is_plain error ≡ true) → (if b then Err test.1 else checked tests (Ok made)) ≡ Err error → is_plain error ≡ true
-        by_test true later e = ap is_plain (sym (same_error {A = Tree} test.1 error e)) ∙ all.0
+        by_test : (b : Bool) → (checked tests (Ok made) ≡ Err error → kind error ≡ true) → (if b then Err test.1 else checked tests (Ok made)) ≡ Err error → kind error ≡ true
+        by_test true later e = ap kind (sym (same_error {A = Tree} test.1 error e)) ∙ all.0
         by_test false later e = later e
+
+pub create_plain : (tree : Tree) (parent : NodeId) (name label : List ℕ) (error : AdfError) → apply tree (Edit.Create parent name label) ≡ Err error → is_plain error ≡ true
+create_plain tree parent name label error e = create_of_kind is_plain tree parent name label error (refl, (refl, (refl, (refl, (refl, (refl, tt)))))) e
+
+not_so : (b : Bool) → not b ≡ true → b ≡ false
+not_so true e = absurd (not_true e)
+not_so false e = refl
+
+pub create_not_of_files : (tree : Tree) (parent : NodeId) (name label : List ℕ) (error : AdfError) → apply tree (Edit.Create parent name label) ≡ Err error → is_of_files error ≡ false
+create_not_of_files tree parent name label error e = not_so (is_of_files error) (create_of_kind (λ x. not (is_of_files x)) tree parent name label error (refl, (refl, (refl, (refl, (refl, (refl, tt)))))) e)
+
+pub create_not_foreign : (tree : Tree) (parent : NodeId) (name label : List ℕ) (error : AdfError) → apply tree (Edit.Create parent name label) ≡ Err error → is_foreign_to_edits error ≡ false
+create_not_foreign tree parent name label error e = not_so (is_foreign_to_edits error) (create_of_kind (λ x. not (is_foreign_to_edits x)) tree parent name label error (refl, (refl, (refl, (refl, (refl, (refl, tt)))))) e)
+
+pub entry_not_foreign : (own : Slot) (serial : ℕ) (error : AdfError) → first_refusal (entry_tests own serial) ≡ Some error → is_foreign_to_edits error ≡ false
+entry_not_foreign own serial error e = not_so (is_foreign_to_edits error) (first_of_kind (λ x. not (is_foreign_to_edits x)) (entry_tests own serial) error (refl, (refl, (refl, (refl, tt)))) e)
 
 pub tree_plain : (own : Slot) (parent : NodeId) (name label : List ℕ) (error : AdfError) → IsTreeRefusal own parent name label (first_refusal (entry_tests own parent.serial)) error → is_plain error ≡ true
 tree_plain own parent name label error h = by_first (first_refusal (entry_tests own parent.serial)) refl h

@@ -15,7 +15,8 @@ use Rattle.adf_model.specs.Answers.{child_entry}
 use Rattle.adf_model.specs.Slots.{Open, Slot, Device, is_gone, is_open, is_broken, open_of, recorded_end}
 use Rattle.adf_model.specs.Slots.Slot.{Raw, Live}
 use Rattle.adf_model.specs.Calls.{is_live_in}
-use Rattle.adf_model.specs.Steps.{OnlyRead, WriteFailed, Torn, Fresh, IsFirstOr, IsOpenRefusal, IsLaidOut, closed}
+use Rattle.adf_model.specs.Torn.{Torn}
+use Rattle.adf_model.specs.Steps.{OnlyRead, WriteFailed, Fresh, IsFirstOr, IsOpenRefusal, LeavesFresh, closed}
 
 -- ---- opening
 
@@ -36,6 +37,7 @@ OpeningWrites error before now = OnlyRead before now
 abbrev pub IsOpenedAt : Slot → Device → ℕ → Result Unit AdfError → Device → Slot → Type 0
 IsOpenedAt own before limit (Ok done) now left =
     (open_refusal own ≡ None) × (left ≡ Live (fresh_open limit)) × ((image : List ℕ) → before.held ≡ Some image → image ≡ []) × (now.writes ≤ before.writes + 1)
+    × LeavesFresh (Fresh false) before now
 IsOpenedAt own before limit (Err Memory) now left = (left ≡ own) × OnlyRead before now
 IsOpenedAt own before limit (Err error) now left =
     IsFirstOr (open_refusal own) error (IsOpenRefusal (Fresh false) own before now error) × (left ≡ after_open error own) × OpeningWrites error before now
@@ -121,11 +123,3 @@ refusal_at error = record { at = 0; error = error }
 abbrev pub as_group : Result (List NodeId) AdfError → Result (List NodeId) EditError
 as_group (Ok created) = Ok created
 as_group (Err error) = Err (refusal_at error)
-
--- ---- what stands of each file
-
-abbrev pub IsToldAt : Slot → Device → Type 0
-IsToldAt own device = is_gone own ≡ false → IsSome device.held
-
-abbrev pub IsLaidOutAt : Slot → Device → Type 0
-IsLaidOutAt own device = IsLaidOut own device device.held

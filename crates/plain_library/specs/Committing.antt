@@ -1,6 +1,6 @@
 -- What the writing of changed blocks leaves of a device.
-use Rattle.std.specs.Prelude.{ℕ, zero, suc, ◌+◌, ◌*◌, ◌≤◌, Bool, not, ◌||◌, nat_lt, if◌then◌else◌, List, ◌++◌, length, take, drop, bytes_eq, Option, IfSome}
-use Rattle.adf_model.specs.Steps.{TornAt}
+use Rattle.std.specs.Prelude.{◌≡◌, true, ℕ, zero, suc, ◌+◌, ◌*◌, ◌≤◌, Bool, not, ◌||◌, nat_lt, if◌then◌else◌, List, ◌++◌, length, take, drop, bytes_eq, Option, IfSome}
+use Rattle.adf_model.specs.Torn.{TornAt}
 use Rattle.cg_io.specs.Cause.{Rose}
 use Rattle.cg_io.specs.Device.{DeviceState, bytes_at}
 
@@ -29,6 +29,6 @@ pub record FailedWrite (before now : DeviceState) : Type 0 where
   pub lost : Rose before.lost now.lost
   pub writes : Rose before.writes now.writes
 
--- where the bytes are told, one block is torn
+-- where the bytes are told, one block is torn, which was to change
 abbrev pub LeavesTorn : List ℕ → List ℕ → Option (List ℕ) → Type 0
-LeavesTorn old new held = IfSome held (λ now. (number : ℕ) × TornAt number old new now)
+LeavesTorn old new held = IfSome held (λ now. (number : ℕ) × (has_changed old new number ≡ true) × (number * 4096 + 4096 ≤ length new) × TornAt number old new now)

@@ -1,5 +1,5 @@
 -- What the creation of a child makes of an open file, and why it is refused.
-use Rattle.std.specs.Prelude.{◌≡◌, ◌⊎◌, ℕ, ◌<◌, ◌≤◌, List, length, map, slice_get, slice_set, slice_index_or, Option, Ok, Err, None, Some}
+use Rattle.std.specs.Prelude.{◌≡◌, ◌⊎◌, ℕ, ◌≤◌, ◌<◌, max, List, length, map, slice_set, slice_index_or, Option, Ok, Err, None, Some}
 use Rattle.std.specs.List.{All}
 use Rattle.adf_format.specs.Tree.{children_at}
 use Rattle.adf_format.specs.HeapRule.{parts_or_none}
@@ -11,9 +11,11 @@ use Rattle.adf_model.specs.declared.tree.NodeId.{NodeId}
 use Rattle.adf_model.specs.Tests.{first_refusal}
 use Rattle.adf_model.specs.Edits.{apply, create_tests}
 use Rattle.adf_model.specs.Creation.{place_child}
+use Rattle.adf_model.specs.Untouched.{KeepsTail}
 use Rattle.plain_library.specs.declared.open_file.Row.{Row}
 use Rattle.plain_library.specs.declared.open_file.Core.{Core}
 use Rattle.plain_library.specs.Core.{tree_of, core_tree, core_placement}
+use Rattle.plain_library.specs.Places.{whole_length}
 
 -- each child is one of the rows
 abbrev pub HasChildren : List Row → Type 0
@@ -31,8 +33,8 @@ pub record Creates (old : Core) (parent : ℕ) (name label : List ℕ) (new : Co
   pub made : (at : NodeId) → at.serial ≡ parent → apply (core_tree old) (Edit.Create at name label) ≡ Ok (core_tree new)
   pub placed : place_child old.limit (core_tree old) parent (core_placement old) ≡ Ok (core_placement new)
   pub limit : new.limit ≡ old.limit
-  pub longer : length old.image.items ≤ length new.image.items
-  pub behind : (byte : ℕ) → new.end < byte → byte < length old.image.items → slice_get new.image.items byte ≡ slice_get old.image.items byte
+  pub tail : KeepsTail new.end old.image.items new.image.items
+  pub reach : length new.image.items ≤ max (length old.image.items) (whole_length new.end)
 
 -- all that is told of an open file stays
 pub record Stays (old new : Core) : Type 0 where

@@ -1,16 +1,12 @@
 -- What the making of a fresh file does to a device.
-use Rattle.std.specs.Prelude.{◌≡◌, ◌≢◌, ℕ, List, [], ◌++◌, IfSome, OnOk, replicate, false, Result, Ok, Err}
-use Rattle.adf_format.specs.Fresh.{fresh_text, fresh_placement}
+use Rattle.std.specs.Prelude.{◌≡◌, ◌≢◌, ℕ, List, [], IfSome, OnOk, false, Result, Ok, Err}
+use Rattle.adf_format.specs.Fresh.{fresh_block, fresh_placement}
 use Rattle.adf_format.specs.LaysOut.{LaysOut}
 use Rattle.adf_format.specs.Tree.{fresh_tree}
 use Rattle.adf_model.specs.declared.error.AdfError.{AdfError}
 use Rattle.adf_model.specs.declared.error.AdfError.TheVariants as error
 use Rattle.cg_io.specs.Cause.{Rose, raised}
 use Rattle.cg_io.specs.Device.{DeviceState, with_block, Tears}
-
--- the first block of the file: its 512 bytes, and zeros
-unfoldable pub fresh_block : List ℕ
-fresh_block = fresh_text false ++ replicate 3584 0
 
 -- a device that was read and not written
 pub record OnlyRead (old new : DeviceState) : Type 0 where
@@ -29,7 +25,7 @@ HoldsFresh image = LaysOut image (fresh_tree false) (fresh_placement false)
 
 -- what the making of a fresh file answers, and what it writes to the device
 abbrev pub WritesFresh : Result Unit AdfError → DeviceState → DeviceState → Type 0
-WritesFresh (Ok done) old new = WritesFirst old new × (new.held ≡ with_block old.held 0 fresh_block)
+WritesFresh (Ok done) old new = WritesFirst old new × (new.held ≡ with_block old.held 0 (fresh_block false))
 WritesFresh (Err error.NotEmpty) old new = IfSome old.held (λ bytes. bytes ≢ []) × OnlyRead old new
 WritesFresh (Err error.ReadFault) old new = Rose old.faults new.faults × OnlyRead old new
 WritesFresh (Err error.WriteFault) old new = WritesFirst old new × Rose old.faults new.faults × Rose old.lost new.lost × Tears old.held 0 new.held

@@ -1,9 +1,9 @@
 //! The file that was just made.
 
 ghost use Rattle.std.specs.Prelude.{◌≡◌, false};
-ghost use Rattle.adf_format.specs.Fresh.{fresh_text};
 ghost use Rattle.plain_library.specs.Committing.{NoCountFell};
-ghost use Rattle.plain_library.specs.Fresh.{fresh_block, MakesFresh};
+ghost use Rattle.adf_format.specs.Fresh.{fresh_text, fresh_block};
+ghost use Rattle.plain_library.specs.Fresh.{MakesFresh};
 
 use adf_model::AdfError;
 use cg_io::Device;
@@ -16,9 +16,9 @@ fn text() -> &'static [u8; 512]
 }
 
 /// The first block of the fresh file.
-#[tactic(auto, unfolding(crate::specs::Fresh::fresh_block))]
+#[tactic(auto, unfolding(adf_format::specs::Fresh::fresh_block))]
 pub fn first_block() -> [u8; 4096]
-    ensures { result ≡ fresh_block }
+    ensures { result ≡ fresh_block false }
 {
     let mut block = [0u8; 4096];
     block[..512].copy_from_slice(text());

@@ -1,10 +1,9 @@
 //! The files of a shelf under their numbers.
 
 ghost use Rattle.std.specs.Prelude.{◌≡◌, ◌≤◌, ◌∷◌, [], length, map, IfOk, IfErr, IsOk, All};
-ghost use Rattle.adf_model.specs.Slots.{IsTold};
-ghost use Rattle.adf_model.specs.Steps.{AllLaidOut, Changed, NoCountFell};
+ghost use Rattle.adf_model.specs.Steps.{Changed};
 ghost use Rattle.call_script.specs.Replies.{HasRule};
-ghost use Rattle.session.specs.Calls.{IsBuiltGroup, PlainStep, names_there};
+ghost use Rattle.session.specs.Calls.{IsBuiltGroup, PlainMakes};
 ghost use Rattle.plain_library.specs.Calls.{as_group, refusal_at};
 ghost use Rattle.plain_library.specs.Shelf.{slots_of, slot_of, IsShelf};
 ghost use Rattle.plain_library.specs.Library.{files_of, devices_of, slots_in, shelf_files, shelf_devices, unplaced, IsReady, IsIdle};
@@ -101,12 +100,7 @@ impl<D: Device> Library<D> {
     fn create(&mut self, parent: &NodeId, name: &[u8], label: &[u8]) -> Result<Serials, EditError>
         requires { IsReady D.state self.old }
         ensures ready { IsReady D.state self.new }
-        ensures told { IsTold (files_of self.old) (devices_of D.state self.old) → IsTold (files_of self.new) (devices_of D.state self.new) }
-        ensures step { IsTold (files_of self.old) (devices_of D.state self.old) →
-            PlainStep (files_of self.old) (devices_of D.state self.old) (Changed (Edit.Create parent.now name.now label.now ∷ []) result) (devices_of D.state self.new) (files_of self.new) }
-        ensures laid_out { IsTold (files_of self.old) (devices_of D.state self.old) → AllLaidOut (files_of self.old) (devices_of D.state self.old) → AllLaidOut (files_of self.new) (devices_of D.state self.new) }
-        ensures counts { NoCountFell (devices_of D.state self.old) (devices_of D.state self.new) }
-        ensures names { names_there (files_of self.new) ≡ names_there (files_of self.old) }
+        ensures makes { PlainMakes (files_of self.old) (devices_of D.state self.old) (Changed (Edit.Create parent.now name.now label.now ∷ []) result) (devices_of D.state self.new) (files_of self.new) }
         ensures rule { IfErr result (λ refusal. HasRule refusal.error) }
     {
         if parent.file as usize >= self.slots.len() {

@@ -4,7 +4,7 @@ ghost use Rattle.std.specs.Prelude.{◌≡◌, ◌≤◌, ◌^◌, false, Some, 
 ghost use Rattle.adf_format.specs.Tree.{fresh_root, fresh_tree};
 ghost use Rattle.adf_format.specs.Fresh.{fresh_placement};
 ghost use Rattle.adf_format.specs.HeapRule.{no_parts};
-ghost use Rattle.plain_library.specs.Fresh.{fresh_block};
+ghost use Rattle.adf_format.specs.Fresh.{fresh_block};
 ghost use Rattle.plain_library.specs.Core.{node_of, parts_in, core_tree, core_placement, IsCore};
 
 use crate::fresh::first_block;
@@ -78,7 +78,7 @@ impl Core {
         ensures core { IfOk result IsCore }
         ensures tree { IfOk result (λ core. core_tree core ≡ fresh_tree false) }
         ensures placement { IfOk result (λ core. core_placement core ≡ fresh_placement false) }
-        ensures image { IfOk result (λ core. core.image.items ≡ fresh_block) }
+        ensures image { IfOk result (λ core. core.image.items ≡ fresh_block false) }
         ensures limit { IfOk result (λ core. core.limit ≡ limit) }
         ensures fault { IfErr result (λ e. e ≡ AdfError.Memory) }
     {

@@ -3,11 +3,11 @@
 ghost use Rattle.std.specs.Prelude.{◌≡◌, ◌≤◌, ◌<◌, ◌^◌, ◌∷◌, [], length, map, IsSome, IfSome, IfOk, IfErr, OnErr, All};
 ghost use Rattle.adf_model.specs.Answers.{child_entry};
 ghost use Rattle.adf_model.specs.Slots.{is_gone, is_open};
-ghost use Rattle.adf_model.specs.Steps.{NoneFell};
+ghost use Rattle.adf_model.specs.Steps.{NoneFell, IsLaidOutAt};
 ghost use Rattle.plain_library.specs.Committing.{NoCountFell};
 ghost use Rattle.plain_library.specs.Core.{tree_of, core_placement, IsCore};
 ghost use Rattle.plain_library.specs.Library.{file_in, device_in, slot_in, placement_in, placed_device, opened_work, created_work, IsReadyWork, IsReadySlot};
-ghost use Rattle.plain_library.specs.Calls.{IsOpenedAt, IsClosedAt, IsAskedAt, IsCreatedAt, IsLaidOutAt};
+ghost use Rattle.plain_library.specs.Calls.{IsOpenedAt, IsClosedAt, IsAskedAt, IsCreatedAt};
 
 use crate::blocks::write_changes;
 use crate::fresh::make_fresh;

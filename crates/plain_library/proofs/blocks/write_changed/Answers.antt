@@ -13,7 +13,7 @@ returns-in-Ok-clause-written g c = λ first before.
 
 pub returns-in-Err-clause-torn : goal.returns-in-Err-clause-torn
 returns-in-Err-clause-torn g c = λ first before.
-    block_torn c.args.number c.args.old.now c.args.new.now first (g.D.Device.state c.args.device.now).held (g.D.Device.state c.write_block.new.self).held c.requires.within before c.in-Err.ensures.torn
+    block_torn c.args.number c.args.old.now c.args.new.now first (g.D.Device.state c.args.device.now).held (g.D.Device.state c.write_block.new.self).held (sym c.is_changed.ensures.is ∙ c.if-not-is_changed.false) c.requires.within before c.in-Err.ensures.torn
 
 pub returns-in-Ok-clause-sparing : goal.returns-in-Ok-clause-sparing
 returns-in-Ok-clause-sparing g c = written_once c.args.old.now c.args.new.now c.args.number _ _ (sym c.is_changed.ensures.is ∙ c.if-not-is_changed.false) c.write_block.ensures.effect.writes

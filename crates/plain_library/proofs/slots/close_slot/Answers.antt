@@ -1,6 +1,6 @@
 use Rattle.std.proofs.Common.{sym, ◌∙◌, subst}
 use Rattle.plain_library.specs.declared.open_file.Work.{Work}
-use Rattle.plain_library.specs.Calls.{IsLaidOutAt}
+use Rattle.adf_model.specs.Steps.{IsLaidOutAt}
 use Rattle.plain_library.specs.Library.{file_by, device_by, placement_in}
 use Rattle.std.specs.Prelude.{option_map}
 use Rattle.plain_library.proofs.SlotSteps.{closed_laid}

@@ -1,25 +1,17 @@
 use Rattle.std.proofs.Common.{arith}
-use Rattle.plain_library.proofs.LibrarySteps.{told_in, laid_in, counts_in, names_in, ready_in, opening_in}
+use Rattle.plain_library.proofs.LibrarySteps.{layouts_in, ready_in, opening_in}
 use Rattle.plain_library.proofs.Steps.{opened_rule}
 use Rattle.plain_library.proofs.library.LibraryFileCalls.open_new.Goals as goal
 
 pub returns-clause-ready : goal.returns-clause-ready
 returns-clause-ready g c = ready_in g.D.Device.state c.args.self.now.slots.items c.args.number c.index_mut.result.now c.open_slot.new.slot (omega (arith, c.len.ensures, c.if-number-len.false)) c.index_mut.ensures.value c.open_slot.ensures.name c.open_slot.ensures.gone c.open_slot.ensures.ready c.requires.ready
 
-pub returns-clause-told : goal.returns-clause-told
-returns-clause-told g c = told_in g.D.Device.state c.args.self.now.slots.items c.args.number c.index_mut.result.now c.open_slot.new.slot (omega (arith, c.len.ensures, c.if-number-len.false)) c.index_mut.ensures.value c.open_slot.ensures.name c.open_slot.ensures.gone c.open_slot.ensures.told
-
-pub returns-clause-step : goal.returns-clause-step
-returns-clause-step g c = λ told. opening_in g.D.Device.state c.args.self.now.slots.items c.args.number c.index_mut.result.now c.open_slot.new.slot (omega (arith, c.len.ensures, c.if-number-len.false)) c.index_mut.ensures.value c.open_slot.ensures.name c.open_slot.ensures.gone c.args.limit c.open_slot.result c.open_slot.ensures.opened c.open_slot.ensures.placed c.open_slot.ensures.counts
-
-pub returns-clause-laid_out : goal.returns-clause-laid_out
-returns-clause-laid_out g c = λ told laid. laid_in g.D.Device.state c.args.self.now.slots.items c.args.number c.index_mut.result.now c.open_slot.new.slot (omega (arith, c.len.ensures, c.if-number-len.false)) c.index_mut.ensures.value c.open_slot.ensures.name c.open_slot.ensures.gone c.open_slot.ensures.laid_out laid
-
-pub returns-clause-counts : goal.returns-clause-counts
-returns-clause-counts g c = counts_in g.D.Device.state c.args.self.now.slots.items c.args.number c.index_mut.result.now c.open_slot.new.slot (omega (arith, c.len.ensures, c.if-number-len.false)) c.index_mut.ensures.value c.open_slot.ensures.name c.open_slot.ensures.gone c.open_slot.ensures.counts
-
-pub returns-clause-names : goal.returns-clause-names
-returns-clause-names g c = names_in g.D.Device.state c.args.self.now.slots.items c.args.number c.index_mut.result.now c.open_slot.new.slot (omega (arith, c.len.ensures, c.if-number-len.false)) c.index_mut.ensures.value c.open_slot.ensures.name c.open_slot.ensures.gone
+pub returns-clause-makes : goal.returns-clause-makes
+returns-clause-makes g c =
+    opening_in g.D.Device.state c.args.self.now.slots.items c.args.number c.index_mut.result.now c.open_slot.new.slot (omega (arith, c.len.ensures, c.if-number-len.false)) c.index_mut.ensures.value c.open_slot.ensures.name c.open_slot.ensures.gone
+    c.args.limit c.open_slot.result c.open_slot.ensures.opened c.open_slot.ensures.placed c.open_slot.ensures.counts
+    (layouts_in g.D.Device.state c.args.self.now.slots.items c.args.number c.index_mut.result.now c.open_slot.new.slot (omega (arith, c.len.ensures, c.if-number-len.false)) c.index_mut.ensures.value c.open_slot.ensures.name c.open_slot.ensures.gone
+    c.open_slot.ensures.told c.open_slot.ensures.laid_out)
 
 pub returns-clause-rule : goal.returns-clause-rule
 returns-clause-rule g c = opened_rule _ _ _ _ _ _ c.open_slot.ensures.opened
