@@ -1,6 +1,6 @@
 -- The rules of chunks and of tables of them, group by group.
-use Rattle.std.proofs.Common.{◌≡◌, ℕ, zero, suc, ◌+◌, ◌-◌, ◌*◌, ◌≤◌, List, ◌++◌, [], ◌∷◌, map, refl, sym, ◌∙◌, ap, arith, Bool, true, false, cond}
-use Rattle.std.specs.Prelude.{Option, Some, None, ◌&&◌, codes}
+use Rattle.std.proofs.Common.{◌≡◌, ℕ, zero, suc, ◌+◌, ◌*◌, List, ◌++◌, [], ◌∷◌, map, refl, ◌∙◌, ap, arith, true, false, cond}
+use Rattle.std.specs.Prelude.{Some, None, ◌&&◌, codes}
 use Rattle.std.specs.List.{range_with_len}
 use Rattle.adf_format.specs.Pointer.{is_place, place_of}
 use Rattle.adf_format.specs.Fields.{field, holds}

@@ -1,5 +1,5 @@
 -- The chunks of a node, one after another.
-use Rattle.std.proofs.Common.{◌≡◌, ℕ, zero, suc, ◌+◌, ◌-◌, ◌*◌, ◌<◌, ◌≤◌, List, ◌++◌, [], ◌∷◌, map, refl, sym, ◌∙◌, ap, arith, append_assoc, length-append, true, false, cond}
+use Rattle.std.proofs.Common.{◌≡◌, ℕ, suc, ◌+◌, ◌-◌, ◌*◌, ◌<◌, ◌≤◌, List, ◌++◌, [], ◌∷◌, map, refl, sym, ◌∙◌, ap, arith, append_assoc, length-append, true, false, cond}
 use Rattle.std.specs.Prelude.{Option, Some, None, length, nat_lt}
 use Rattle.std.proofs.lemmas.Bool.Decides.{nat_tests}
 use Rattle.std.proofs.lemmas.List.Elements.{All-push}
@@ -10,13 +10,13 @@ use Rattle.std.specs.List.{range_with_len}
 use Rattle.adf_format.specs.declared.types.Extent.{Extent}
 use Rattle.adf_format.specs.Tiles.{total_length}
 use Rattle.adf_format.specs.Checks.{Row, Fault, first_broken}
-use Rattle.adf_format.specs.FirstFault.{ChunkVisit, chunk_rows, chunk_visits, chunk_length, payload_total, count_up}
+use Rattle.adf_format.specs.FirstFault.{ChunkVisit, chunk_rows, chunk_length, payload_total, count_up}
 use Rattle.layout_lint.specs.declared.verdict.Halt.{Halt}
 use Rattle.layout_lint.specs.declared.verdict.Halt.TheVariants as halt
 use Rattle.adf_format.specs.declared.types.ExtentKind.{ExtentKind}
 use Rattle.adf_format.specs.Placement.{extent}
 use Rattle.layout_lint.specs.Halts.{Breaks}
-use Rattle.layout_lint.specs.Chunks.{visit_of, listed_chunk, chunk_visit, chunk_list, data_extent, one_chunk_rows, AddsChunks, IsChunk}
+use Rattle.layout_lint.specs.Chunks.{visit_of, listed_chunk, chunk_visit, data_extent, one_chunk_rows, AddsChunks, IsChunk}
 use Rattle.layout_lint.proofs.RowSteps.{kept_then, breaks_first}
 
 -- the numbers from i on, where there are some

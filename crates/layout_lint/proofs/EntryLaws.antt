@@ -1,5 +1,5 @@
 -- Entries looked at one after another.
-use Rattle.std.proofs.Common.{◌≡◌, ℕ, zero, suc, refl, sym, ◌∙◌, ap, arith, List, [], ◌∷◌, ◌++◌, map, ◌+◌, ◌-◌, ◌*◌, ◌<◌, ◌≤◌, Bool, true, false, cond}
+use Rattle.std.proofs.Common.{◌≡◌, ℕ, zero, suc, refl, sym, ◌∙◌, ap, arith, List, map, ◌+◌, ◌-◌, ◌*◌, ◌<◌, ◌≤◌, Bool, true, false, cond}
 use Rattle.std.specs.Prelude.{Option, Some, None, not, ◌&&◌, ◌||◌}
 use Rattle.std.specs.List.{list_any, range_with_len}
 use Rattle.std.specs.Str.{bytes_eq}
@@ -9,7 +9,7 @@ use Rattle.std.specs.BTreeSet.{contains, BTreeSet}
 use Rattle.std.specs.BTreeMap.{is_at}
 use Rattle.std.proofs.lemmas.Map.Text.{is_eq-slice_cmp}
 use Rattle.adf_format.specs.Pointer.{is_place}
-use Rattle.adf_format.specs.Checks.{Row, Fault, row, first_broken}
+use Rattle.adf_format.specs.Checks.{Row, Fault, first_broken}
 use Rattle.adf_format.specs.FirstFault.{entry_name, entry_pointer, is_name_field, entry_rows}
 use Rattle.adf_format.specs.Fields.{field}
 use Rattle.adf_format.proofs.FieldLaws.{inner_field}

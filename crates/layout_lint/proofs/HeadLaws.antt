@@ -1,11 +1,11 @@
 -- The rules of the head, group by group, and what it says.
-use Rattle.std.proofs.Common.{◌≡◌, ℕ, ◌+◌, ◌<◌, ◌≤◌, List, ◌++◌, [], ◌∷◌, length, refl, sym, ◌∙◌, ap, arith, Bool, true, false, cond}
+use Rattle.std.proofs.Common.{◌≡◌, ℕ, ◌+◌, ◌<◌, ◌≤◌, List, ◌++◌, [], ◌∷◌, length, refl, ◌∙◌, ap, arith, Bool, true, false, cond}
 use Rattle.std.specs.Prelude.{Option, Some, None, option_map, codes, nat_lt, nat_le, ◌&&◌, unwrap_or}
 use Rattle.std.specs.Str.{bytes_eq}
-use Rattle.adf_format.specs.Pointer.{Pointer, Blank, To, pointer, place_value, place_of}
+use Rattle.adf_format.specs.Pointer.{Pointer, Blank, pointer, place_value, place_of}
 use Rattle.adf_format.specs.Fields.{field, holds}
 use Rattle.adf_format.specs.Parts.{node_length}
-use Rattle.adf_format.specs.Checks.{Row, row, Fault, first_broken}
+use Rattle.adf_format.specs.Checks.{Row, row, first_broken}
 use Rattle.adf_format.specs.Records.{HeaderRecord, header_record, free_table_record, pointer_in}
 use Rattle.adf_format.specs.declared.types.Format.{Format}
 use Rattle.adf_format.specs.SoundPart.{format_in}
@@ -19,11 +19,10 @@ use Rattle.adf_records.specs.Laws.{placed}
 use Rattle.adf_records.specs.View as view
 use Rattle.adf_records.specs.View.{header_of, pointers_of}
 use Rattle.adf_records.proofs.Places.{free_placed}
-use Rattle.layout_lint.specs.declared.head.Head.{Head}
 use Rattle.layout_lint.specs.declared.verdict.Span.{Span}
 use Rattle.layout_lint.specs.declared.verdict.Halt.{Halt}
 use Rattle.layout_lint.specs.Halts.{Breaks}
-use Rattle.layout_lint.specs.Heads.{IsSpan, IsHead}
+use Rattle.layout_lint.specs.Heads.{IsHead}
 use Rattle.layout_lint.proofs.RowSteps.{kept_then, broken_first, breaks_first, breaks_then, row_kept, row_broken}
 
 -- ---- the free table at its place

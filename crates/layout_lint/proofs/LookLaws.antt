@@ -1,5 +1,5 @@
 -- The rules of a node, group by group, by what its header says.
-use Rattle.std.proofs.Common.{◌≡◌, ℕ, ◌+◌, ◌-◌, ◌^◌, ◌≤◌, ◌<◌, List, ◌++◌, [], ◌∷◌, refl, sym, ◌∙◌, ap, cond, arith, append_assoc, Bool, true, false}
+use Rattle.std.proofs.Common.{◌≡◌, ℕ, ◌+◌, ◌^◌, ◌≤◌, ◌<◌, List, ◌++◌, [], ◌∷◌, refl, sym, ◌∙◌, ap, cond, arith, append_assoc, Bool, true, false}
 use Rattle.std.specs.Prelude.{Option, Some, None, not, nat_le, nat_lt, ◌==◌, ◌&&◌, ◌||◌}
 use Rattle.std.specs.List.{All}
 use Rattle.std.specs.Option.{option_or}

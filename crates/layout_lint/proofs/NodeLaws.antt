@@ -1,5 +1,5 @@
 -- The rules of a node's header, group by group.
-use Rattle.std.proofs.Common.{◌≡◌, ℕ, ◌+◌, ◌≤◌, ◌<◌, List, ◌++◌, [], ◌∷◌, refl, sym, ◌∙◌, ap, arith, Bool, true, false}
+use Rattle.std.proofs.Common.{◌≡◌, ℕ, ◌+◌, ◌≤◌, ◌<◌, List, ◌++◌, [], ◌∷◌, refl, ◌∙◌, ap, arith, Bool, true, false}
 use Rattle.std.specs.Prelude.{Option, Some, None, Result, option_map, not}
 use Rattle.std.proofs.lemmas.Bool.Decides.{nat_tests}
 use Rattle.std.proofs.lemmas.Grind.{common_steps}
@@ -17,7 +17,7 @@ use Rattle.layout_lint.specs.declared.verdict.Halt.{Halt}
 use Rattle.layout_lint.specs.declared.verdict.Halt.TheVariants as halt
 use Rattle.layout_lint.specs.Halts.{Breaks, Finds}
 use Rattle.layout_lint.specs.Nodes.{place_rows, bytes_rows, header_rows_at}
-use Rattle.layout_lint.proofs.RowSteps.{kept_2, breaks_first, breaks_2, breaks_3, finds_then, row_kept, row_breaks}
+use Rattle.layout_lint.proofs.RowSteps.{breaks_first, breaks_2, breaks_3, finds_then, row_kept, row_breaks}
 
 pub node_kept : (wide named : Bool) (base : ℕ) (bytes : List ℕ) → first_broken (node_rows wide 0 named bytes) ≡ None → first_broken (node_rows wide base named bytes) ≡ None
 node_kept wide named base bytes kept = node_placed wide named base bytes ∙ ap (option_map (placed base)) kept

@@ -1,5 +1,5 @@
 -- Reads one after another.
-use Rattle.std.proofs.Common.{◌≡◌, ℕ, ◌+◌, ◌≤◌, refl, ◌∙◌, arith}
+use Rattle.std.proofs.Common.{ℕ, ◌+◌, ◌≤◌, refl, ◌∙◌, arith}
 use Rattle.cg_io.specs.Device.{DeviceState}
 use Rattle.cg_io.specs.Blocks.{ReadsFew}
 use Rattle.layout_lint.specs.declared.verdict.Halt.{Halt}

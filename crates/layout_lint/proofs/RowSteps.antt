@@ -1,10 +1,10 @@
 -- Rules looked at group by group.
-use Rattle.std.proofs.Common.{◌≡◌, ℕ, ◌+◌, ◌-◌, ◌<◌, ◌≤◌, List, ◌++◌, [], ◌∷◌, map, refl, ◌∙◌, ap, Bool, true, false, cond}
+use Rattle.std.proofs.Common.{◌≡◌, ℕ, ◌+◌, ◌-◌, ◌<◌, List, ◌++◌, [], ◌∷◌, map, refl, ◌∙◌, ap, Bool, true, false, cond}
 use Rattle.std.specs.Prelude.{Option, Some, None, Result, Ok, Err}
 use Rattle.std.specs.Option.{option_or}
 use Rattle.std.specs.List.{range_with_len}
 use Rattle.adf_format.specs.Checks.{Row, row, Fault, first_broken}
-use Rattle.adf_format.proofs.CheckLaws.{first_broken-append, first_broken-next, first_broken-last}
+use Rattle.adf_format.proofs.CheckLaws.{first_broken-append, first_broken-next}
 use Rattle.layout_lint.specs.declared.verdict.Halt.{Halt}
 use Rattle.layout_lint.specs.declared.verdict.Halt.TheVariants as halt
 use Rattle.layout_lint.specs.Halts.{Breaks, Finds, fault}

@@ -1,7 +1,7 @@
 -- The rules of records are rules of a layout: so is the first of them that is broken.
-use Rattle.std.proofs.Common.{◌≡◌, ℕ, ◌+◌, ◌≤◌, Bool, true, false, cond, List, [], ◌∷◌, map, refl, subst, arith}
+use Rattle.std.proofs.Common.{◌≡◌, ℕ, ◌≤◌, Bool, true, false, cond, List, [], ◌∷◌, map, refl, subst, arith}
 use Rattle.std.proofs.lemmas.Bool.Decides.{nat_tests}
-use Rattle.std.specs.Prelude.{Option, Some, nat_le, ◌&&◌}
+use Rattle.std.specs.Prelude.{Some, nat_le, ◌&&◌}
 use Rattle.adf_format.specs.RuleNumbers.{IsRule}
 use Rattle.adf_format.specs.Checks.{Row, Fault, first_broken}
 use Rattle.adf_format.specs.FirstFault.{header_rows, free_table_rows, node_rows, text_rows, number_rows, pointer_rows, shape_rows, dimension_row}

@@ -1,17 +1,16 @@
 -- The shape of what the linter says: the nodes of a walk, one after another, and the gaps between their headers.
-use Rattle.std.proofs.Common.{◌≡◌, ◌⊎◌, inl, inr, ℕ, zero, suc, ◌+◌, ◌-◌, ◌^◌, ◌<◌, ◌≤◌, Bool, true, false, cond, not, List, [], ◌∷◌, ◌++◌, map, filter, length, refl, sym, ◌∙◌, ap, subst, arith}
+use Rattle.std.proofs.Common.{◌≡◌, ◌⊎◌, inl, inr, ℕ, zero, suc, ◌+◌, ◌-◌, ◌^◌, ◌<◌, ◌≤◌, Bool, true, false, cond, List, [], ◌∷◌, ◌++◌, map, filter, length, refl, sym, ◌∙◌, ap, subst, arith}
 use Rattle.std.proofs.lemmas.Bool.Decides.{nat_tests, leb_tells}
 use Rattle.std.proofs.lemmas.List.{map-append, length-map, nil_from_length}
-use Rattle.std.proofs.lemmas.List.Elements.{All-append, All-pop, All-weaker, All-head, All-nil, All-push, filter-append}
-use Rattle.std.proofs.lemmas.Option.{slice_get_within, same_Some}
-use Rattle.std.specs.Prelude.{Option, Some, None, slice_get, nat_le, nat_lt, ◌&&◌, ◌==◌, IsTrue}
+use Rattle.std.proofs.lemmas.List.Elements.{All-append, All-pop, All-weaker, All-nil, All-push, filter-append}
+use Rattle.std.proofs.lemmas.Option.{same_Some}
+use Rattle.std.specs.Prelude.{Option, Some, slice_get, nat_le, nat_lt, ◌&&◌, ◌==◌}
 use Rattle.std.specs.Vec.{vec_len}
 use Rattle.std.specs.List.{All, AllByRecursion}
-use Rattle.std.specs.Option.{option_to_list, IfSome}
 use Rattle.adf_format.specs.declared.types.Extent.{Extent}
 use Rattle.adf_format.specs.declared.types.ExtentKind.{ExtentKind}
-use Rattle.adf_format.specs.Tiles.{cover, end_of, holds_byte, is_free, is_filler}
-use Rattle.adf_format.specs.LaysOut.{IsGap, AreGapsInOrder}
+use Rattle.adf_format.specs.Tiles.{cover, end_of, holds_byte}
+use Rattle.adf_format.specs.LaysOut.{AreGapsInOrder}
 use Rattle.adf_format.specs.Parts.{node_length}
 use Rattle.adf_format.specs.Placement.{extent, head_extents}
 use Rattle.adf_format.specs.Verdict.{NodePlace}

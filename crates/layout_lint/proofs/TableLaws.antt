@@ -1,7 +1,6 @@
 -- The rules of a table of children, group by group.
-use Rattle.std.proofs.Common.{◌≡◌, ℕ, ◌+◌, ◌*◌, ◌≤◌, List, ◌++◌, [], ◌∷◌, refl, ◌∙◌, ap, arith, true, false}
+use Rattle.std.proofs.Common.{◌≡◌, ℕ, ◌+◌, ◌*◌, ◌≤◌, List, ◌++◌, [], ◌∷◌, refl, ◌∙◌, ap, true, false}
 use Rattle.std.specs.Prelude.{None, ◌&&◌, codes}
-use Rattle.adf_format.specs.Pointer.{pointer}
 use Rattle.adf_format.specs.Fields.{field, holds}
 use Rattle.adf_format.specs.Parts.{table_length}
 use Rattle.adf_format.specs.Checks.{Row, row, first_broken}

@@ -1,5 +1,5 @@
 -- Chunks of data, one by one.
-use Rattle.std.specs.Prelude.{◌≡◌, ◌≤◌, ◌++◌, map, length, ℕ, ◌+◌, ◌-◌, ◌*◌, Bool, cond, ◌&&◌, nat_le, nat_lt, List, [], ◌∷◌, Option, Some, None, codes}
+use Rattle.std.specs.Prelude.{◌≡◌, ◌≤◌, ◌++◌, map, length, ℕ, ◌+◌, ◌*◌, Bool, cond, ◌&&◌, nat_le, nat_lt, List, [], ◌∷◌, Option, Some, None, codes}
 use Rattle.adf_format.specs.Pointer.{is_place, place_of}
 use Rattle.adf_format.specs.Fields.{field, holds}
 use Rattle.std.specs.List.{All}

@@ -2,7 +2,6 @@
 use Rattle.std.specs.Prelude.{◌≡◌, ℕ, ◌<◌, ◌≤◌, List, codes, false}
 use Rattle.adf_format.specs.Fields.{holds}
 use Rattle.layout_laws.specs.TilePass.{AreBlank}
-use Rattle.layout_lint.specs.declared.verdict.Broken.{Broken}
 use Rattle.layout_lint.specs.declared.verdict.Halt.{Halt}
 use Rattle.layout_lint.specs.declared.verdict.Halt.TheVariants as halt
 

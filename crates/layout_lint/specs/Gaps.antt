@@ -6,7 +6,6 @@ use Rattle.adf_format.specs.LaysOut.{HasSameRanges}
 use Rattle.adf_format.specs.FirstFault.{IsLeastMisplaced}
 use Rattle.layout_laws.specs.TilePass.{AreBlank, IsPassed, filled_up}
 use Rattle.layout_lint.specs.Fillers.{IsHole}
-use Rattle.layout_lint.specs.declared.verdict.Broken.{Broken}
 use Rattle.layout_lint.specs.declared.verdict.Halt.{Halt}
 use Rattle.layout_lint.specs.declared.verdict.Halt.TheVariants as halt
 

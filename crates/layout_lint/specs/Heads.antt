@@ -1,8 +1,7 @@
 -- What the head of a file says.
-use Rattle.std.specs.Prelude.{◌≡◌, ℕ, ◌+◌, ◌<◌, ◌≤◌, List, length, None}
+use Rattle.std.specs.Prelude.{◌≡◌, ℕ, ◌<◌, List, length, None}
 use Rattle.adf_format.specs.Fields.{field}
 use Rattle.adf_format.specs.Checks.{first_broken}
-use Rattle.adf_format.specs.Parts.{node_length}
 use Rattle.adf_format.specs.Records.{free_table_record}
 use Rattle.adf_format.specs.SoundPart.{format_in}
 use Rattle.adf_format.specs.FirstFault.{head_rows, root_visit, is_wide, end_in}

@@ -1,5 +1,5 @@
 -- The start and the end of a part of a file.
-use Rattle.std.specs.Prelude.{ℕ, ◌&&◌, List, Option, Some, None, Bool, cond}
+use Rattle.std.specs.Prelude.{ℕ, ◌&&◌, List, Option, Some, None, cond}
 use Rattle.adf_format.specs.Pointer.{is_place}
 use Rattle.adf_format.specs.Fields.{field, holds}
 use Rattle.adf_format.specs.Records.{start_tag, end_tag}

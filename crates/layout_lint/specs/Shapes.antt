@@ -8,7 +8,7 @@ use Rattle.adf_format.specs.LaysOut.{AreGapsInOrder}
 use Rattle.adf_format.specs.Parts.{node_length}
 use Rattle.adf_format.specs.Placement.{extent, head_extents}
 use Rattle.adf_format.specs.Verdict.{NodePlace}
-use Rattle.layout_laws.specs.NodePass.{Waiting, named_node}
+use Rattle.layout_laws.specs.NodePass.{named_node}
 use Rattle.layout_lint.specs.Walks.{waiting_of, node_place}
 use Rattle.layout_lint.specs.declared.node.Met.{Met}
 use Rattle.layout_lint.specs.declared.stack.Family.{Family}

@@ -1,5 +1,5 @@
 -- What the verdict of the linter means.
-use Rattle.std.specs.Prelude.{◌≡◌, ℕ, Bool, true, false, List, map, ⊤}
+use Rattle.std.specs.Prelude.{ℕ, Bool, true, false, List, map, ⊤}
 use Rattle.cg_io.specs.Cause.{Rose}
 use Rattle.adf_model.specs.declared.error.AdfError.{AdfError}
 use Rattle.adf_model.specs.declared.error.AdfError.TheVariants as error

@@ -1,13 +1,11 @@
 -- Where a walk over the nodes stands.
-use Rattle.std.specs.Prelude.{[], ◌∷◌, ◌==◌, cond, true, ◌≡◌, ℕ, ◌+◌, ◌<◌, ◌≤◌, Bool, List, ◌++◌, map, length, Ok, Err}
-use Rattle.std.specs.List.{All}
+use Rattle.std.specs.Prelude.{[], ◌∷◌, ◌==◌, cond, true, ◌≡◌, ℕ, ◌+◌, List, ◌++◌, map, Ok, Err}
 use Rattle.std.specs.Ordering.{nat_cmp}
 use Rattle.std.specs.BTreeSet.{contains}
-use Rattle.adf_format.specs.declared.types.Extent.{Extent}
 use Rattle.adf_format.specs.Verdict.{NodePlace}
 use Rattle.adf_format.specs.Tiles.{total_length}
 use Rattle.adf_format.specs.Placement.{head_extents}
-use Rattle.adf_format.specs.FirstFault.{Visit, NodeWalk, is_wide, end_in}
+use Rattle.adf_format.specs.FirstFault.{Visit, NodeWalk, is_wide}
 use Rattle.layout_laws.specs.NodePass.{Waiting, IsUnderway, AreMet, is_known, met_extents, named_node}
 use Rattle.layout_lint.specs.declared.node.Met.{Met}
 use Rattle.layout_lint.specs.declared.verdict.NodePlace as code

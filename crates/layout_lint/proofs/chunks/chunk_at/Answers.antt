@@ -1,5 +1,4 @@
-use Rattle.std.proofs.Common.{◌≡◌, ◌∙◌, ◌+◌, ◌≤◌, ◌<◌, sym, arith, length}
-use Rattle.std.proofs.lemmas.Bool.Decides.{nat_tests}
+use Rattle.std.proofs.Common.{◌∙◌, ◌+◌, ◌≤◌, sym, arith, length}
 use Rattle.layout_lint.proofs.ChunkListLaws.{chunk_read, more_than_one}
 use Rattle.layout_lint.proofs.chunks.chunk_at.Goals as goal
 

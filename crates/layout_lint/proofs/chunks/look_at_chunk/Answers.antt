@@ -1,4 +1,4 @@
-use Rattle.std.proofs.Common.{◌≡◌, ◌∙◌, ◌+◌, ◌-◌, ◌≤◌, refl, sym, ap, arith, length, ℕ}
+use Rattle.std.proofs.Common.{◌∙◌, ◌+◌, ◌-◌, refl, sym, ap, arith}
 use Rattle.adf_format.specs.FirstFault.{has_room}
 use Rattle.layout_lint.specs.Chunks.{visit_of}
 use Rattle.layout_lint.proofs.RowSteps.{no_value, some_value}

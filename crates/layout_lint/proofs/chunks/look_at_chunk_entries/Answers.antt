@@ -1,4 +1,4 @@
-use Rattle.std.proofs.Common.{◌≡◌, ◌∙◌, ◌+◌, ◌*◌, refl, sym, arith, ℕ, map}
+use Rattle.std.proofs.Common.{◌∙◌, ◌+◌, ◌*◌, arith, map}
 use Rattle.adf_format.specs.FirstFault.{count_up}
 use Rattle.layout_lint.specs.Chunks.{chunk_entry_row}
 use Rattle.layout_lint.proofs.ReadLaws.{reads_then}

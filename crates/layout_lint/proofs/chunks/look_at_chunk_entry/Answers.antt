@@ -1,4 +1,4 @@
-use Rattle.std.proofs.Common.{◌≡◌, ◌∙◌, refl, sym}
+use Rattle.std.proofs.Common.{◌∙◌, refl}
 use Rattle.layout_lint.proofs.RowSteps.{row_kept, row_broken, no_value, some_value}
 use Rattle.layout_lint.proofs.ChunkLaws.{chunk_entry_said}
 use Rattle.layout_lint.proofs.chunks.look_at_chunk_entry.Goals as goal

@@ -1,4 +1,4 @@
-use Rattle.std.proofs.Common.{◌≡◌, ◌∙◌, ◌+◌, ◌*◌, ◌≤◌, sym, arith, length, ℕ}
+use Rattle.std.proofs.Common.{◌∙◌, sym, arith}
 use Rattle.layout_lint.proofs.TableLaws.{head_pointer}
 use Rattle.layout_lint.proofs.ChunkLaws.{breaks_list_start, breaks_list_pointer, breaks_list_entries, breaks_list_tail, breaks_list_room, keeps_list}
 use Rattle.layout_lint.proofs.chunks.look_at_chunk_table.Goals as goal

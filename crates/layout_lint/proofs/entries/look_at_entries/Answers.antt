@@ -1,12 +1,6 @@
-use Rattle.std.proofs.Common.{◌≡◌, refl, sym, ◌∙◌, ap, arith, Bool, true, false, ℕ, List, ◌<◌, ◌+◌, ◌-◌, ◌*◌, ◌≤◌, length}
-use Rattle.std.specs.Prelude.{not, ◌&&◌, Some, None, cond, Option}
-use Rattle.adf_format.specs.Pointer.{is_place}
-use Rattle.adf_format.specs.Fields.{field}
-use Rattle.adf_format.specs.Checks.{first_broken}
-use Rattle.adf_format.specs.FirstFault.{is_name_field, entry_name, entry_pointer}
-use Rattle.layout_lint.specs.Entries.{entry_row, is_repeated}
+use Rattle.std.proofs.Common.{sym, ◌∙◌, arith}
 use Rattle.layout_lint.proofs.ReadLaws.{reads_then, reads_none}
-use Rattle.layout_lint.proofs.EntryLaws.{rows_start, next_row, this_row, names_more, entry_said, bad_entry, same_entry, good_entry}
+use Rattle.layout_lint.proofs.EntryLaws.{rows_start, names_more, entry_said, bad_entry, same_entry, good_entry}
 use Rattle.layout_lint.proofs.RowSteps.{no_value, some_value}
 use Rattle.layout_lint.proofs.entries.look_at_entries.Goals as goal
 

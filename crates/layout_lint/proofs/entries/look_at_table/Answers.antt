@@ -1,6 +1,4 @@
-use Rattle.std.proofs.Common.{◌≡◌, ◌∙◌, ◌+◌, ◌*◌, ◌≤◌, ap, sym, subst, arith, length, ℕ}
-use Rattle.adf_format.specs.Fields.{field}
-use Rattle.adf_format.specs.FirstFault.{is_pointer_to}
+use Rattle.std.proofs.Common.{◌∙◌, sym, arith}
 use Rattle.layout_lint.proofs.TableLaws.{head_pointer, breaks_pointer, breaks_tail, breaks_room, keeps_table}
 use Rattle.layout_lint.proofs.entries.look_at_table.Goals as goal
 

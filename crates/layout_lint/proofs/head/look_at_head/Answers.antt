@@ -1,4 +1,4 @@
-use Rattle.std.proofs.Common.{◌≡◌, ◌∙◌, ◌≤◌, sym, arith, length}
+use Rattle.std.proofs.Common.{◌∙◌, ◌≤◌, sym, arith, length}
 use Rattle.layout_lint.proofs.HeadLaws.{breaks_length, breaks_header, breaks_end, breaks_free, keeps_head, end_tested, head_said}
 use Rattle.layout_lint.proofs.head.look_at_head.Goals as goal
 

@@ -1,4 +1,4 @@
-use Rattle.std.proofs.Common.{◌≡◌, ◌∙◌, ◌+◌, ◌≤◌, ap, sym, arith, length}
+use Rattle.std.proofs.Common.{◌∙◌, ap, sym, arith}
 use Rattle.adf_format.specs.Checks.{first_broken}
 use Rattle.layout_lint.proofs.NodeLaws.{node_kept, node_broken, rows_read}
 use Rattle.layout_lint.proofs.RuleLaws.{node_rule}

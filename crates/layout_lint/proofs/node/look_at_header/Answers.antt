@@ -1,4 +1,4 @@
-use Rattle.std.proofs.Common.{◌≡◌, ◌∙◌, ◌+◌, ◌≤◌, ap, sym, length, true, false}
+use Rattle.std.proofs.Common.{◌∙◌, ap, sym, length}
 use Rattle.std.specs.Prelude.{not}
 use Rattle.adf_format.specs.Parts.{node_length}
 use Rattle.layout_lint.proofs.NodeLaws.{breaks_fits, breaks_new, breaks_room, finds_header, fits_within}

@@ -1,4 +1,4 @@
-use Rattle.std.proofs.Common.{rules, ◌≡◌, length, ◌∙◌}
+use Rattle.std.proofs.Common.{rules}
 use Rattle.layout_lint.proofs.PageLaws.{field_read}
 use Rattle.layout_lint.proofs.pages.field_at.Goals as goal
 

@@ -1,4 +1,4 @@
-use Rattle.std.proofs.Common.{◌≡◌, ◌∙◌, ◌+◌, ◌-◌, ◌*◌, ◌≤◌, arith}
+use Rattle.std.proofs.Common.{◌∙◌, ◌+◌, ◌-◌, arith}
 use Rattle.layout_laws.specs.NodePass.{waiting_child}
 use Rattle.std.proofs.lemmas.Grind.{common_steps}
 use Rattle.layout_lint.proofs.ReadLaws.{reads_then, reads_none}

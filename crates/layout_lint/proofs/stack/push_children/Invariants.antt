@@ -1,4 +1,4 @@
-use Rattle.std.proofs.Common.{◌≡◌, ◌+◌, ◌-◌, ◌*◌, ◌≤◌, ◌<◌, ◌++◌, ℕ, map, reverse, length}
+use Rattle.std.proofs.Common.{◌≡◌, ◌+◌, ◌-◌, ◌*◌, ◌≤◌, ◌<◌, ◌++◌, map, reverse, length}
 use Rattle.std.specs.List.{range_with_len}
 use Rattle.cg_io.specs.Blocks.{ReadsFew}
 use Rattle.layout_laws.specs.NodePass.{waiting_child}
