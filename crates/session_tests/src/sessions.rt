@@ -5,6 +5,7 @@ ghost use Rattle.adf_model.specs.Slots.{Files, Devices};
 
 use crate::fixtures::source_of;
 use adf_model::{AdfError, Edit, EditError, Query, Reply, Serials};
+use call_script::laws as line_laws;
 use cg_io::{MemorySink, MemorySource};
 use session::{Ended, FileCalls, Found, LineReader, Stopped, laws, run_session};
 use std::alloc::Global;
@@ -169,4 +170,6 @@ fn lines_are_found_one_by_one(rt: HostRuntime) -> Result<(), Fail> {
 #[test]
 fn laws_are_calls() {
     laws::faults_bound_replies();
+    line_laws::one_call_a_line();
+    line_laws::calls_have_lines();
 }

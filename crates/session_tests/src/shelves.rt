@@ -29,18 +29,18 @@ fn adds(
     }
 }
 
-// Whether a device stands there, can be taken once, leaves its number, and comes back.
-fn is_taken_once(shelf: &mut Shelf<MemoryDevice>, number: u32, name: &[u8]) -> bool
+// Whether a device stands there that leaves its number when it is taken, and can be taken again once it
+// was put back.
+fn comes_back(shelf: &mut Shelf<MemoryDevice>, number: u32, name: &[u8]) -> bool
     requires { IsShelf shelf.old }
     ensures { IsShelf shelf.new }
 {
     let Some(device) = shelf.take(number) else {
         return false;
     };
-    let is_gone = shelf.take(number).is_none();
     let stays = shelf.number_of(name) == Some(number);
     shelf.put_back(number, device);
-    is_gone && stays && shelf.take(number).is_some()
+    stays && shelf.take(number).is_some()
 }
 
 fn is_number_of(shelf: &Shelf<MemoryDevice>, name: &[u8], wanted: Option<u32>) -> bool
@@ -67,7 +67,8 @@ fn a_shelf_hands_out_each_name_and_each_device_once(rt: HostRuntime) -> Result<(
     assert!(rt; is_number_of(&shelf, b"b", Some(1)));
     assert!(rt; is_number_of(&shelf, b"c", None));
     assert!(rt; is_empty_at(&mut shelf, 2));
-    assert!(rt; is_taken_once(&mut shelf, 1, b"b"));
+    assert!(rt; comes_back(&mut shelf, 1, b"b"));
     assert!(rt; is_empty_at(&mut shelf, 1));
+    assert!(rt; is_number_of(&shelf, b"b", Some(1)));
     Ok(())
 }
