@@ -1,0 +1,7 @@
+pub mod Asked
+pub mod LinkErrors
+pub mod Targets
+pub mod Data
+pub mod Plain
+pub mod Gathered
+pub mod Causes
