@@ -2,8 +2,8 @@
 
 use adf_model::{
     AdfError, DataType, Shape, create_laws, data_laws, edit_laws, element_size, fault_laws,
-    is_label, is_name, is_shape, is_wide_shape, laws, one_file_laws, size, spell, standing_laws,
-    tree_laws, untouched_laws, walk_laws,
+    is_label, is_name, is_shape, is_wide_shape, laws, one_file_laws, run_laws, size, spell,
+    standing_laws, tree_laws, untouched_laws, walk_laws, write_laws,
 };
 use std::alloc::Global;
 
@@ -175,8 +175,10 @@ fn laws_of_layouts_are_calls() {
     untouched_laws::heads_stay();
     untouched_laws::parts_stay();
     untouched_laws::groups_leave_the_rest();
-    untouched_laws::torn_files_keep_the_tail();
     walk_laws::walks_find_trees();
+    write_laws::torn_files_stay_small();
+    write_laws::torn_files_keep_the_tail();
+    write_laws::failed_groups_leave_the_rest();
 }
 
 #[test]
@@ -184,10 +186,16 @@ fn laws_of_calls_are_calls() {
     data_laws::chunks_hold_data();
     data_laws::resized_data();
     data_laws::released_data();
+    data_laws::room_of_data();
     data_laws::other_parts();
     fault_laws::faults_bound_replies();
     one_file_laws::one_file_as_many();
+    run_laws::states_are_laid_out();
+    run_laws::fresh_files_are_known();
+    run_laws::no_fresh_file_over_bytes();
     standing_laws::openings_stand();
+    standing_laws::openings_have_causes();
+    standing_laws::closings_stand();
     standing_laws::groups_stand();
     standing_laws::one_file_refuses();
     standing_laws::lines_change_nothing();
