@@ -24,7 +24,7 @@ use disk_ptr::DiskPtr;
 use disk_ptr::fields::{copied, holds, pointer_at, put, put_pointer};
 
 /// A part of a file that stands between two tags.
-#[derive(Clone, Copy, Debug, PartialEq, Eq)]
+#[derive(Clone, Copy)]
 pub enum Part {
     /// A table of a node's children.
     SubNodes,
@@ -37,7 +37,7 @@ pub enum Part {
 }
 
 /// The head of a free chunk.
-#[derive(Clone, Copy, Debug, PartialEq, Eq)]
+#[derive(Clone, Copy, PartialEq, Eq)]
 pub struct FreeHead {
     pub end_tag: DiskPtr,
     /// The next free chunk of its list, or blank at the last.
@@ -45,7 +45,7 @@ pub struct FreeHead {
 }
 
 /// An entry of a table of children.
-#[derive(Clone, Copy, Debug, PartialEq, Eq)]
+#[derive(Clone, Copy, PartialEq, Eq)]
 pub struct NodeEntry {
     /// The child's name, and spaces behind it.
     pub name: [u8; 32],
@@ -53,7 +53,7 @@ pub struct NodeEntry {
 }
 
 /// An entry of a table of data chunks.
-#[derive(Clone, Copy, Debug, PartialEq, Eq)]
+#[derive(Clone, Copy, PartialEq, Eq)]
 pub struct ChunkEntry {
     pub start: DiskPtr,
     pub end_tag: DiskPtr,

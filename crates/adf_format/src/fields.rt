@@ -7,7 +7,7 @@ ghost use Rattle.std.specs.Prelude.{◌≡◌, ◌<◌, IsTrue};
 ghost use Rattle.adf_format.specs.RecordFields.{is_tag, tag_text, dimension_digits, chunk_count_at, node_dimension, node_chunks, node_chunk, node_end_tag};
 
 /// What a field holds.
-#[derive(Clone, Copy, Debug, PartialEq, Eq, Drop)]
+#[derive(Clone, Copy, Drop)]
 pub enum FieldKind {
     /// This text.
     Tag([u8; 4]),
@@ -28,7 +28,7 @@ pub enum FieldKind {
 }
 
 /// A field of a record.
-#[derive(Clone, Copy, Debug, PartialEq, Eq, Drop)]
+#[derive(Clone, Copy, Drop)]
 pub struct Field {
     pub offset: usize,
     pub length: usize,

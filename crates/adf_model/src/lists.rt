@@ -4,14 +4,14 @@ use crate::tree::{Child, Edit, NodeId};
 use adf_format::Listing;
 
 /// Elements of an array that stand one behind another: the first of them, counted from 0, and how many.
-#[derive(Clone, Copy, Debug, PartialEq, Eq)]
+#[derive(Clone, Copy, PartialEq, Eq)]
 pub struct Run {
     pub first: u64,
     pub count: u64,
 }
 
 /// A part of a path: its first byte, and the first byte behind it.
-#[derive(Clone, Copy, Debug, PartialEq, Eq)]
+#[derive(Clone, Copy, PartialEq, Eq)]
 pub struct PathRange {
     pub start: usize,
     pub end: usize,

@@ -27,7 +27,7 @@ mod node;
 mod texts;
 
 /// The header at the start of a file.
-#[derive(Clone, Copy, Debug, PartialEq, Eq)]
+#[derive(Clone, Copy, PartialEq, Eq)]
 pub struct FileHeader {
     /// What the file is, and its version.
     pub what: [u8; 32],
@@ -45,7 +45,7 @@ pub struct FileHeader {
 }
 
 /// The first and the last chunk of each list of free chunks: blank where the list is empty.
-#[derive(Clone, Copy, Debug, PartialEq, Eq)]
+#[derive(Clone, Copy, PartialEq, Eq)]
 pub struct FreeTable {
     pub small_first: DiskPtr,
     pub small_last: DiskPtr,
@@ -56,7 +56,7 @@ pub struct FreeTable {
 }
 
 /// The header of a node.
-#[derive(Clone, Copy, Debug, PartialEq, Eq)]
+#[derive(Clone, Copy, PartialEq, Eq)]
 pub struct NodeHeader {
     /// Whether dimensions have sixteen digits.
     pub wide: bool,
@@ -80,7 +80,7 @@ pub struct NodeHeader {
 }
 
 /// A rule that a record breaks, and where in the record.
-#[derive(Clone, Copy, Debug, PartialEq, Eq)]
+#[derive(Clone, Copy, PartialEq, Eq)]
 pub struct BadField {
     pub rule: u8,
     pub offset: u16,

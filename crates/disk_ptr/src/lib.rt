@@ -15,7 +15,7 @@ ghost use Rattle.disk_ptr.specs.declared.DiskPtr.{DiskPtr};
 pub mod fields;
 
 /// A pointer as a file holds it.
-#[derive(Clone, Copy, Debug, PartialEq, Eq)]
+#[derive(Clone, Copy, PartialEq, Eq)]
 pub enum DiskPtr {
     /// It points nowhere.
     Blank,
