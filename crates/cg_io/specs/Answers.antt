@@ -1,5 +1,5 @@
 -- What calls over bytes answer, and what they leave of a space and of the device below it.
-use Rattle.std.specs.Prelude.{◌≡◌, ℕ, ◌+◌, ◌≤◌, List, length, None, Some, ⊤, Result, IfErr}
+use Rattle.std.specs.Prelude.{◌≡◌, ℕ, ◌+◌, ◌≤◌, List, None, Some, ⊤, Result, IfErr}
 use Rattle.std.specs.declared.option.Option.{Option}
 use Rattle.adf_model.specs.declared.error.AdfError.{AdfError}
 use Rattle.adf_model.specs.declared.error.AdfError.TheVariants as error

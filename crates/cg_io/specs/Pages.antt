@@ -1,5 +1,5 @@
 -- What pages over blocks are made of.
-use Rattle.std.specs.Prelude.{◌≡◌, ℕ, List, Option, IfSome}
+use Rattle.std.specs.Prelude.{ℕ, List, Option, IfSome}
 use Rattle.cg_io.specs.Device.{DeviceState, Gives}
 use Rattle.cg_io.specs.declared.pages.Page.{Page}
 use Rattle.cg_io.specs.declared.pages.Pages.{Pages}
