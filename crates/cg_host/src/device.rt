@@ -42,6 +42,15 @@ impl<R: Files + Clone + Drop> HostDevice<R> {
     }
 }
 
+// Whether a file that cannot be opened for writing too may be one that can be read: it may not be written, or stands on a file
+// system that is read only.
+fn may_be_read(kind: ErrorKind) -> bool {
+    matches!(
+        kind,
+        ErrorKind::PermissionDenied | ErrorKind::ReadOnlyFilesystem
+    )
+}
+
 // Opens the file, unless it is open, or absent and not to be made. A file that may not be written is
 // opened for reading alone, so that a write of it is what fails.
 fn open_once<R: Files + Clone + Drop>(
@@ -65,7 +74,7 @@ fn open_once<R: Files + Clone + Drop>(
         }
         Err(error) => match error.kind() {
             ErrorKind::NotFound if !create => Ok(()),
-            ErrorKind::PermissionDenied if !create => {
+            kind if !create && may_be_read(kind) => {
                 *file = Some(OpenOptions::new().read(true).open(rt, path)?);
                 Ok(())
             }

@@ -43,9 +43,10 @@ pub record SourceState : Type 0 where
   pub faults : ℕ
   pub failing : Option ℕ
 
--- the same of a sink, with what it took
+-- the same of a sink, with what it took, and how many bytes it has memory for
 pub record SinkState : Type 0 where
   pub taken : List ℕ
+  pub room : ℕ
   pub calls : ℕ
   pub faults : ℕ
   pub failing : Option ℕ

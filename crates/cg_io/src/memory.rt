@@ -164,6 +164,7 @@ impl Device for MemoryDevice {
         ensures lost { HasCause self.old.lost self.new.lost result }
         ensures counts { CountsFailures self.old.faults self.new.faults result × CountsFailures self.old.lost self.new.lost result }
         ensures listed { IfSome (kept_of self.old.failing_writes (raised self.old.writes)) (λ kept. IsErr result × LeavesTorn self.old.bytes (n * 4096) from.now kept self.new.bytes) }
+        ensures unlisted { IsErr result → kept_of self.old.failing_writes (raised self.old.writes) ≡ None → self.new.bytes ≡ self.old.bytes }
         ensures fails { IsErr result → IsSome (kept_of self.old.failing_writes (raised self.old.writes)) ⊎ (length self.old.bytes < n * 4096 + 4096) }
         ensures lists { (self.new.failing_reads ≡ self.old.failing_reads) × (self.new.failing_writes ≡ self.old.failing_writes) }
     {

@@ -1,5 +1,5 @@
 // A source and a sink in memory, of which one call may be told to fail.
-ghost use Rattle.std.specs.Prelude.{◌≡◌, ◌↔◌, ◌⊎◌, ◌≢◌, ◌<◌, [], length, Some, None, IfOk, IsErr};
+ghost use Rattle.std.specs.Prelude.{◌≡◌, ◌↔◌, ◌⊎◌, ◌<◌, ◌+◌, [], length, Some, None, IfOk, IsErr};
 ghost use Rattle.std.specs.Io.{ReadsAtMost, WritesAtMost};
 ghost use Rattle.std.specs.Io.KnownBytes.{ReadConsumes, WriteAppends};
 ghost use Rattle.cg_io.specs.Cause.{HasCause, raised};
@@ -78,7 +78,8 @@ impl Source for MemorySource {
     }
 }
 
-/// A sink that keeps what it takes.
+/// A sink that keeps what it takes. A call that is not the one to fail fails only where it finds no memory for what it is to
+/// take.
 #[derive(Drop)]
 pub struct MemorySink {
     taken: Vec<u8>,
@@ -88,16 +89,19 @@ pub struct MemorySink {
 }
 
 impl Model for MemorySink {
+    ghost use Rattle.std.specs.Prelude.{vec_capacity};
     ghost use Rattle.cg_io.specs.Memory.{SinkState};
 
     ghost Value = { SinkState };
 
-    ghost view = { λ s. record { taken = s.taken.items; calls = s.calls; faults = s.faults; failing = s.failing } };
+    ghost view = { λ s. record { taken = s.taken.items; room = vec_capacity s.taken; calls = s.calls; faults = s.faults; failing = s.failing } };
 }
 
 impl MemorySink {
     pub fn new(alloc: Global) -> MemorySink
-        ensures { result ≡ record { taken = []; calls = 0; faults = 0; failing = None } }
+        ensures taken { result.taken ≡ [] }
+        ensures counts { (result.calls ≡ 0) × (result.faults ≡ 0) }
+        ensures failing { result.failing ≡ None }
     {
         MemorySink {
             taken: Vec::new(alloc),
@@ -132,7 +136,8 @@ impl Sink for MemorySink {
         ensures some { IfOk result (λ n. 0 < length from.now → 0 < n) }
         ensures bytes { WriteAppends (Some self.old.taken) (Some self.new.taken) result from.now }
         ensures cause { HasCause self.old.faults self.new.faults result }
-        ensures fails { self.old.failing ≡ Some (raised self.old.calls) → IsErr result }
+        ensures listed { self.old.failing ≡ Some (raised self.old.calls) → IsErr result }
+        ensures fails { IsErr result → (self.old.failing ≡ Some (raised self.old.calls)) ⊎ (self.old.room < length self.old.taken + length from.now) }
         ensures counts { CountsFailures self.old.faults self.new.faults result }
         ensures calls { self.new.calls ≡ raised self.old.calls }
         ensures same { self.new.failing ≡ self.old.failing }
