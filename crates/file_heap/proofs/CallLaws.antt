@@ -1,5 +1,5 @@
 -- The calls of a heap, from what their parts answered.
-use Rattle.std.proofs.Common.{◌≡◌, ℕ, sym, ◌∙◌, ap, subst, arith, List, [], ◌∷◌, ◌++◌, filter, ◌+◌, ◌*◌, ◌<◌, ◌≤◌, ◌^◌, true, false}
+use Rattle.std.proofs.Common.{◌≡◌, ℕ, sym, ◌∙◌, ap, subst, arith, List, [], ◌∷◌, ◌++◌, filter, ◌+◌, ◌-◌, ◌*◌, ◌<◌, ◌≤◌, ◌^◌, true, false}
 use Rattle.std.proofs.lemmas.Bool.Decides.{nat_tests}
 use Rattle.std.specs.Prelude.{Option, None, Result, Ok, Err, OnOk, OnErr, IfOk, IfErr, IfSome, find, nat_lt}
 use Rattle.cg_io.specs.Blocks.{Both}
@@ -12,17 +12,19 @@ use Rattle.adf_format.specs.Tiles.{cover, holds_byte, is_free, MeetsNone}
 use Rattle.adf_format.specs.Placement.{Heap, extent}
 use Rattle.adf_format.specs.LaysOut.{ThreadsFreeChunks}
 use Rattle.adf_format.specs.Changes.{heap_fields}
-use Rattle.adf_format.specs.HeapRule.{cut, is_fit, heap_take, give_alone}
+use Rattle.adf_format.specs.HeapRule.{cut, is_fit, heap_take, give_joined, pairs}
 use Rattle.adf_format.proofs.CountLaws.{none_holds}
-use Rattle.adf_format.proofs.HeapSteps.{take_tiles}
+use Rattle.adf_format.proofs.HeapLaws.{in_range, cover-give_joined}
+use Rattle.adf_format.proofs.HeapSteps.{take_tiles, give_tiles, take_keeps_order, give_keeps_order}
 use Rattle.file_heap.specs.Gaps.{IsFirstFit, gap_at}
-use Rattle.file_heap.specs.Heap.{IsHeap, TakesBy, TakesOfTiles, GivesToTiles, Grows, IsRefusal, ChangesOnly, MovesEnd, KeepsThreads, KeepsFillers}
+use Rattle.file_heap.specs.Heap.{IsHeap, TakesBy, TakesOfTiles, TakesCover, IsTakenWithin, GivesToTiles, GivesCover, Grows, IsRefusal, ChangesOnly, MovesEnd, KeepsThreads, KeepsFillers}
 use Rattle.file_heap.specs.Links.{AreGaps, range, free_table, end_pointer}
 use Rattle.file_heap.proofs.Ranges.{cover_kinds}
 use Rattle.file_heap.proofs.ChangeLaws.{IsWithin, widened}
 use Rattle.file_heap.proofs.Effects.{on_ok}
 use Rattle.file_heap.proofs.HeapFacts.{heap_gaps, gaps_apart}
-use Rattle.file_heap.proofs.OrderLaws.{given_is_heap, cut_is_heap, grown_is_heap, gives_to_tiles}
+use Rattle.file_heap.proofs.OrderLaws.{given_is_heap, cut_is_heap, grown_is_heap}
+use Rattle.file_heap.proofs.TakeLaws.{taken_within, taken_covers}
 use Rattle.file_heap.proofs.SpaceLaws.{kept_threads, end_stays, fillers_stay}
 
 abbrev pub heap_of : List Extent → ℕ → Heap
@@ -113,29 +115,52 @@ cut_end (Err e) heap old new h t c = tt
 
 -- ---- a gift
 
-pub given_heap : (place n : ℕ) (gaps new : List Extent) (end : ℕ) (r : Result (Unit {0}) AdfError) → 1 ≤ n → MeetsNone place n gaps → 266 ≤ place → place + n ≤ end + 1 → OnOk r (new ≡ give_alone place n gaps) → OnErr r (new ≡ gaps) → IsHeap (heap_of gaps end) → IsHeap (heap_of new end)
+pub given_heap : (place n : ℕ) (gaps new : List Extent) (end : ℕ) (r : Result (Unit {0}) AdfError) → 1 ≤ n → MeetsNone place n gaps → 266 ≤ place → place + n ≤ end + 1 → OnOk r (new ≡ give_joined place n gaps) → OnErr r (new ≡ gaps) → IsHeap (heap_of gaps end) → IsHeap (heap_of new end)
 given_heap place n gaps new end (Ok x) some none low high is stays h = subst (λ xs. IsHeap (heap_of xs end)) (sym is) (given_is_heap place n (heap_of gaps end) some none low high h)
 given_heap place n gaps new end (Err e) some none low high is stays h = subst (λ xs. IsHeap (heap_of xs end)) (sym stays) h
 
-pub given_tiles : (place n : ℕ) (gaps new : List Extent) (end : ℕ) (r : Result (Unit {0}) AdfError) → OnOk r (new ≡ give_alone place n gaps) → OnOk r (GivesToTiles place n (heap_of gaps end) (heap_of new end))
-given_tiles place n gaps new end (Ok x) is = subst (λ xs. GivesToTiles place n (heap_of gaps end) (heap_of xs end)) (sym is) (gives_to_tiles place n (heap_of gaps end))
+pub given_tiles : (place n : ℕ) (gaps new : List Extent) (end : ℕ) (r : Result (Unit {0}) AdfError) → OnOk r (new ≡ give_joined place n gaps) → OnOk r (GivesToTiles place n (heap_of gaps end) (heap_of new end))
+given_tiles place n gaps new end (Ok x) is = subst (λ xs. GivesToTiles place n (heap_of gaps end) (heap_of xs end)) (sym is) (λ kind used t. give_tiles place n (heap_of gaps end) kind used t)
 given_tiles place n gaps new end (Err e) is = tt
+
+pub given_covers : (place n : ℕ) (gaps new : List Extent) (end : ℕ) (r : Result (Unit {0}) AdfError) → OnOk r (new ≡ give_joined place n gaps) → OnOk r (GivesCover place n (heap_of gaps end) (heap_of new end))
+given_covers place n gaps new end (Ok x) is = subst (λ xs. GivesCover place n (heap_of gaps end) (heap_of xs end)) (sym is) (λ b. cover-give_joined place n gaps b)
+given_covers place n gaps new end (Err e) is = tt
+
+pub given_pairs : (place n : ℕ) (gaps new : List Extent) (end : ℕ) (r : Result (Unit {0}) AdfError) → 1 ≤ n → MeetsNone place n gaps → OnOk r (new ≡ give_joined place n gaps) → OnErr r (new ≡ gaps) → IsHeap (heap_of gaps end) → pairs new ≤ pairs gaps
+given_pairs place n gaps new end (Ok x) some none is stays h = subst (λ xs. pairs xs ≤ pairs gaps) (sym is) (give_keeps_order place n (heap_of gaps end) some h.order none).1
+given_pairs place n gaps new end (Err e) some none is stays h = subst (λ xs. pairs xs ≤ pairs gaps) (sym stays) (omega arith)
 
 range_behind : (place n b : ℕ) → 266 ≤ place → b < 158 → holds_byte (range place n) b ≡ false
 range_behind place n b low lt = grind (arith, nat_tests)
 
-pub given_end : {T : Type 0} (r : Result T AdfError) (heap : Heap) (place n : ℕ) (old new : Option (List ℕ)) → 266 ≤ place → IfSome old (λ bytes. ThreadsFreeChunks bytes heap.gaps) → Both (ChangesOnly (free_table ∷ range place n ∷ [])) old new
+pub given_end : {T : Type 0} (r : Result T AdfError) (heap : Heap) (place n : ℕ) (old new : Option (List ℕ)) → 266 ≤ place → IsHeap heap → IfSome old (λ bytes. ThreadsFreeChunks bytes heap.gaps) → Both (ChangesOnly (free_table ∷ range place n ∷ heap.gaps)) old new
     → OnOk r (Both (MovesEnd heap.end heap.end) old new)
-given_end (Ok x) heap place n old new behind t c =
-    end_stays (free_table ∷ range place n ∷ []) heap.gaps heap.end old new (λ b low high. let off = not_table b high in let out = range_behind place n b behind high in rw (off, out)) t c
-given_end (Err e) heap place n old new behind t c = tt
+given_end (Ok x) heap place n old new behind h t c =
+    end_stays (free_table ∷ range place n ∷ heap.gaps) heap.gaps heap.end old new
+    (λ b low high.
+    let off = not_table b high in let out = range_behind place n b behind high in let z = (gaps_apart heap.gaps (heap_gaps heap h)).low b (omega (arith, high)) in rw (off, out) (omega (arith, z))) t c
+given_end (Err e) heap place n old new behind h t c = tt
 
-gift_within : (place n : ℕ) (gaps : List Extent) → IsWithin (free_table ∷ range place n ∷ []) (heap_fields ++ range place n ∷ gaps)
-gift_within place n gaps b none =
-    let inner = none_holds (extent ExtentKind.Header HEADER_END.offset HEADER_END.length) (free_table ∷ range place n ∷ gaps) b none in
-    let next = none_holds free_table (range place n ∷ gaps) b inner.1 in
-    let off : holds_byte free_table b ≡ false = next.0 in
-    let out : holds_byte (range place n) b ≡ false = (none_holds (range place n) gaps b next.1).0 in rw (off, out)
+pub given_changes : (place n : ℕ) (gaps : List Extent) (old new : Option (List ℕ)) → Both (ChangesOnly (free_table ∷ range place n ∷ gaps)) old new → Both (ChangesOnly (heap_fields ++ range place n ∷ gaps)) old new
+given_changes place n gaps old new c =
+    widened (free_table ∷ range place n ∷ gaps) (heap_fields ++ range place n ∷ gaps) old new
+    (λ b none. (none_holds (extent ExtentKind.Header HEADER_END.offset HEADER_END.length) (free_table ∷ range place n ∷ gaps) b none).1) c
 
-pub given_changes : (place n : ℕ) (gaps : List Extent) (old new : Option (List ℕ)) → Both (ChangesOnly (free_table ∷ range place n ∷ [])) old new → Both (ChangesOnly (heap_fields ++ range place n ∷ gaps)) old new
-given_changes place n gaps old new c = widened (free_table ∷ range place n ∷ []) (heap_fields ++ range place n ∷ gaps) old new (gift_within place n gaps) c
+-- ---- a take
+
+pub taken_pairs : (limit n : ℕ) (old new : Heap) (r : Result ℕ AdfError) → 1 ≤ n → IsHeap old → TakesBy limit n old r new → pairs new.gaps ≤ pairs old.gaps
+taken_pairs limit n old new (Ok place) some h t = (take_keeps_order limit n old place new some h.order t).1
+taken_pairs limit n old new (Err (error.Full asked last)) some h t = subst (λ (x : Heap). pairs x.gaps ≤ pairs old.gaps) (sym t.1) (omega arith)
+taken_pairs limit n old new (Err other) some h t = subst (λ (x : Heap). pairs x.gaps ≤ pairs old.gaps) (sym t.1) (omega arith)
+
+pub is_taken_within : (limit n : ℕ) (old new : Heap) (r : Result ℕ AdfError) → IsHeap old → TakesBy limit n old r new → IfOk r (IsTakenWithin n new)
+is_taken_within limit n old new (Ok place) h t = taken_within limit n old new place h t
+is_taken_within limit n old new (Err e) h t = tt
+
+pub takes_cover : (limit n : ℕ) (old new : Heap) (r : Result ℕ AdfError) → TakesBy limit n old r new → IfOk r (TakesCover n old new)
+takes_cover limit n old new (Ok place) t = λ b. taken_covers limit n old new place b t ∙ plain (cover old.gaps b) (in_range (old.end + 1) (new.end - old.end) b)
+  where
+    plain : (x y : ℕ) → x + y ≡ y + x
+    plain x y = omega arith
+takes_cover limit n old new (Err e) t = tt

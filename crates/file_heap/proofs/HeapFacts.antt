@@ -8,11 +8,11 @@ use Rattle.adf_format.specs.declared.types.ExtentKind.{ExtentKind}
 use Rattle.adf_format.specs.Tiles.{cover, end_of, holds_byte, is_free, is_filler, is_free_kind, is_filler_kind}
 use Rattle.adf_format.specs.Placement.{Heap, extent}
 use Rattle.adf_format.specs.LaysOut.{AreGapsInOrder, StandsBefore, count_of}
-use Rattle.adf_format.specs.HeapRule.{new_gap, before_gaps, put_gap, rest_of, cut}
-use Rattle.adf_format.proofs.HeapLaws.{in_range, cover-before_gaps}
+use Rattle.adf_format.specs.HeapRule.{new_gap, before_gaps, rest_of, cut}
+use Rattle.adf_format.proofs.HeapLaws.{in_range}
 use Rattle.adf_format.proofs.CountLaws.{none_holds}
 use Rattle.adf_format.proofs.HeapSteps.{cover-append}
-use Rattle.file_heap.specs.Gaps.{IsFirstFit, AllEndBy, gap_at}
+use Rattle.file_heap.specs.Gaps.{IsFirstFit, AllEndBy, gap_at, put_by_place}
 use Rattle.file_heap.specs.Heap.{IsHeap}
 use Rattle.file_heap.specs.Links.{AreApart, AreGaps}
 use Rattle.file_heap.proofs.Ranges.{count-append, filter-append}
@@ -266,23 +266,12 @@ filler_removed (suc i) (g ∷ gs) b = by_test (filler_removed i gs b) (is_filler
 
 -- ---- one more gap
 
-pub cover_put : (x : Extent) (gaps : List Extent) (b : ℕ) → cover (put_gap x gaps) b ≡ in_range x.place x.length b + cover gaps b
-cover_put x [] b = refl
-cover_put x (g ∷ gs) b = by_test (cover_put x gs b) (nat_lt x.place g.place)
-  where
-    plain : (g r x c : ℕ) → r ≡ x + c → g + r ≡ x + (g + c)
-    plain g r x c e = omega (arith, e)
-
-    by_test : cover (put_gap x gs) b ≡ in_range x.place x.length b + cover gs b → (t : Bool) → cover (cond t (before_gaps x (g ∷ gs)) (before_gaps g (put_gap x gs))) b ≡ in_range x.place x.length b + (in_range g.place g.length b + cover gs b)
-    by_test e true = cover-before_gaps x (g ∷ gs) b
-    by_test e false = cover-before_gaps g (put_gap x gs) b ∙ plain (in_range g.place g.length b) (cover (put_gap x gs) b) (in_range x.place x.length b) (cover gs b) e
-
-pub free_put : (q m : ℕ) (x : Extent) (gaps : List Extent) → count_of q m (filter is_free (put_gap x gaps)) ≡ count_of q m (filter is_free (x ∷ gaps))
+pub free_put : (q m : ℕ) (x : Extent) (gaps : List Extent) → count_of q m (filter is_free (put_by_place x gaps)) ≡ count_of q m (filter is_free (x ∷ gaps))
 free_put q m x [] = refl
-free_put q m x (g ∷ gs) = by_test (free_put q m x gs) (nat_lt x.place g.place)
+free_put q m x (g ∷ gs) = by_test (free_put q m x gs) (nat_lt g.place x.place)
   where
-    kinds : count_of q m (filter is_free (put_gap x gs)) ≡ count_of q m (filter is_free (x ∷ gs)) → (t u : Bool) → is_free x ≡ u
-        → count_of q m (cond t (g ∷ filter is_free (put_gap x gs)) (filter is_free (put_gap x gs))) ≡ count_of q m (cond u (x ∷ cond t (g ∷ filter is_free gs) (filter is_free gs)) (cond t (g ∷ filter is_free gs) (filter is_free gs)))
+    kinds : count_of q m (filter is_free (put_by_place x gs)) ≡ count_of q m (filter is_free (x ∷ gs)) → (t u : Bool) → is_free x ≡ u
+        → count_of q m (cond t (g ∷ filter is_free (put_by_place x gs)) (filter is_free (put_by_place x gs))) ≡ count_of q m (cond u (x ∷ cond t (g ∷ filter is_free gs) (filter is_free gs)) (cond t (g ∷ filter is_free gs) (filter is_free gs)))
     kinds e true true f = ap (λ k. cond ((g.place == q) && (g.length == m)) 1 0 + k) (rw f at e) ∙ plain (cond ((g.place == q) && (g.length == m)) 1 0) (cond ((x.place == q) && (x.length == m)) 1 0) (count_of q m (filter is_free gs))
       where
         plain : (a b c : ℕ) → a + (b + c) ≡ b + (a + c)
@@ -291,16 +280,16 @@ free_put q m x (g ∷ gs) = by_test (free_put q m x gs) (nat_lt x.place g.place)
     kinds e false true f = rw f at e
     kinds e false false f = rw f at e
 
-    by_test : count_of q m (filter is_free (put_gap x gs)) ≡ count_of q m (filter is_free (x ∷ gs)) → (t : Bool) → count_of q m (filter is_free (cond t (before_gaps x (g ∷ gs)) (before_gaps g (put_gap x gs)))) ≡ count_of q m (filter is_free (x ∷ g ∷ gs))
-    by_test e true = ap (count_of q m) (free_before x (g ∷ gs))
-    by_test e false = ap (count_of q m) (free_before g (put_gap x gs)) ∙ kinds e (is_free g) (is_free x) refl
+    by_test : count_of q m (filter is_free (put_by_place x gs)) ≡ count_of q m (filter is_free (x ∷ gs)) → (t : Bool) → count_of q m (filter is_free (cond t (g ∷ put_by_place x gs) (x ∷ g ∷ gs))) ≡ count_of q m (filter is_free (x ∷ g ∷ gs))
+    by_test e true = kinds e (is_free g) (is_free x) refl
+    by_test e false = refl
 
-pub filler_put : (b : ℕ) (x : Extent) (gaps : List Extent) → cover (filter is_filler (put_gap x gaps)) b ≡ cover (filter is_filler (x ∷ gaps)) b
+pub filler_put : (b : ℕ) (x : Extent) (gaps : List Extent) → cover (filter is_filler (put_by_place x gaps)) b ≡ cover (filter is_filler (x ∷ gaps)) b
 filler_put b x [] = refl
-filler_put b x (g ∷ gs) = by_test (filler_put b x gs) (nat_lt x.place g.place)
+filler_put b x (g ∷ gs) = by_test (filler_put b x gs) (nat_lt g.place x.place)
   where
-    kinds : cover (filter is_filler (put_gap x gs)) b ≡ cover (filter is_filler (x ∷ gs)) b → (t u : Bool) → is_filler x ≡ u
-        → cover (cond t (g ∷ filter is_filler (put_gap x gs)) (filter is_filler (put_gap x gs))) b ≡ cover (cond u (x ∷ cond t (g ∷ filter is_filler gs) (filter is_filler gs)) (cond t (g ∷ filter is_filler gs) (filter is_filler gs))) b
+    kinds : cover (filter is_filler (put_by_place x gs)) b ≡ cover (filter is_filler (x ∷ gs)) b → (t u : Bool) → is_filler x ≡ u
+        → cover (cond t (g ∷ filter is_filler (put_by_place x gs)) (filter is_filler (put_by_place x gs))) b ≡ cover (cond u (x ∷ cond t (g ∷ filter is_filler gs) (filter is_filler gs)) (cond t (g ∷ filter is_filler gs) (filter is_filler gs))) b
     kinds e true true f = ap (λ k. in_range g.place g.length b + k) (rw f at e) ∙ plain (in_range g.place g.length b) (in_range x.place x.length b) (cover (filter is_filler gs) b)
       where
         plain : (a b c : ℕ) → a + (b + c) ≡ b + (a + c)
@@ -309,6 +298,13 @@ filler_put b x (g ∷ gs) = by_test (filler_put b x gs) (nat_lt x.place g.place)
     kinds e false true f = rw f at e
     kinds e false false f = rw f at e
 
-    by_test : cover (filter is_filler (put_gap x gs)) b ≡ cover (filter is_filler (x ∷ gs)) b → (t : Bool) → cover (filter is_filler (cond t (before_gaps x (g ∷ gs)) (before_gaps g (put_gap x gs)))) b ≡ cover (filter is_filler (x ∷ g ∷ gs)) b
-    by_test e true = filler_before x (g ∷ gs) b
-    by_test e false = filler_before g (put_gap x gs) b ∙ kinds e (is_filler g) (is_filler x) refl
+    by_test : cover (filter is_filler (put_by_place x gs)) b ≡ cover (filter is_filler (x ∷ gs)) b → (t : Bool) → cover (filter is_filler (cond t (g ∷ put_by_place x gs) (x ∷ g ∷ gs))) b ≡ cover (filter is_filler (x ∷ g ∷ gs)) b
+    by_test e true = kinds e (is_filler g) (is_filler x) refl
+    by_test e false = refl
+
+-- ---- one gap less
+
+pub free_unlisted : (i : ℕ) (gaps : List Extent) → i < length gaps → is_free (gap_at gaps i) ≡ false → filter is_free (remove gaps i) ≡ filter is_free gaps
+free_unlisted i [] lt off = absurd (omega (arith, lt))
+free_unlisted zero (g ∷ gs) lt off = rw off
+free_unlisted (suc i) (g ∷ gs) lt off = ap (λ xs. cond (is_free g) (g ∷ xs) xs) (free_unlisted i gs (omega (arith, lt)) off)

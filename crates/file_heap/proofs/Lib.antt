@@ -1,5 +1,8 @@
 pub mod CutLaws
 pub mod PutLaws
+pub mod GiveTests
+pub mod JoinLaws
+pub mod TakeLaws
 pub mod Images
 pub mod Ranges
 pub mod Threads
@@ -12,4 +15,5 @@ pub mod PushLaws
 pub mod HeapFacts
 pub mod OrderLaws
 pub mod SpaceLaws
+pub mod JoinSteps
 pub mod CallLaws

@@ -10,18 +10,18 @@ use Rattle.adf_format.specs.declared.types.Extent.{Extent}
 use Rattle.adf_format.specs.declared.types.ExtentKind.{ExtentKind}
 use Rattle.adf_format.specs.Fields.{field}
 use Rattle.adf_format.specs.Pointer.{To, pointer, pointer_text, PointsTo}
-use Rattle.adf_format.specs.Tiles.{cover, holds_byte, is_free, is_filler, MeetsNone}
+use Rattle.adf_format.specs.Tiles.{cover, end_of, holds_byte, is_free, is_filler, MeetsNone}
 use Rattle.adf_format.specs.Placement.{extent}
-use Rattle.adf_format.specs.LaysOut.{ThreadsFreeChunks, HasSameRanges}
+use Rattle.adf_format.specs.LaysOut.{ThreadsFreeChunks, HasSameRanges, count_of}
 use Rattle.adf_format.specs.Changes.{Writes}
-use Rattle.adf_format.specs.HeapRule.{new_gap, cut, give_alone}
+use Rattle.adf_format.specs.HeapRule.{new_gap, cut}
 use Rattle.adf_format.proofs.HeapLaws.{in_range}
 use Rattle.adf_format.proofs.HexLaws.{pointer-pointer_text}
 use Rattle.adf_format.proofs.CountLaws.{none_holds}
 use Rattle.adf_format.proofs.FrameLaws.{field_kept}
 use Rattle.adf_format.proofs.SpelledParts.{length-pointer_text}
-use Rattle.file_heap.specs.Gaps.{IsFirstFit, gap_at}
-use Rattle.file_heap.specs.Heap.{ChangesOnly, KeepsFillers, KeepsThreads, MovesEnd, IsUntold}
+use Rattle.file_heap.specs.Gaps.{IsFirstFit, gap_at, put_by_place}
+use Rattle.file_heap.specs.Heap.{ChangesOnly, KeepsFillers, KeepsThreads, MovesEnd, IsUntold, BecomeGaps}
 use Rattle.file_heap.specs.Links.{AreApart, AreGaps, ThreadsNone, WritesGap, range, free_table}
 use Rattle.file_heap.proofs.Ranges.{flat, cover_kinds, same_cover}
 use Rattle.file_heap.proofs.Threads.{table_within, threading_beside}
@@ -29,7 +29,8 @@ use Rattle.file_heap.proofs.WalkLaws.{all_ends, lists_of, threading, same_ranges
 use Rattle.file_heap.proofs.TableLaws.{of_threading}
 use Rattle.file_heap.proofs.UnlinkLaws.{count_removed}
 use Rattle.file_heap.proofs.ChangeLaws.{IsWithin, widened, changes_then}
-use Rattle.file_heap.proofs.HeapFacts.{gaps_apart, free_cut, filler_cut, filler_removed, rest_gap, free_put, filler_put}
+use Rattle.file_heap.proofs.HeapFacts.{gaps_apart, free_cut, filler_cut, filler_removed, rest_gap, free_put, filler_put, free_unlisted}
+use Rattle.file_heap.proofs.JoinLaws.{cover_removed_gap}
 
 -- ---- the end pointer
 
@@ -233,11 +234,11 @@ cut_fillers gaps i n gap a b c is g fit v w u = go a b c v (subst (λ (x : Exten
           | inr h ↦ (let le = filler_removed i gaps k in let more : 0 < cover (filter is_filler gaps) k = omega (arith, h, le) in u.others k (filler_apart gaps k g more) ∙ held k more)
         ]
 
-pub give_fillers : (gaps : List Extent) (place n : ℕ) (a c : Option (List ℕ)) → AreGaps gaps → MeetsNone place n gaps → Both (WritesGap place n) a c → Both (ChangesOnly (free_table ∷ range place n ∷ [])) a c → Both (KeepsFillers gaps (give_alone place n gaps)) a c
-give_fillers gaps place n None None g none w u = tt
-give_fillers gaps place n None (Some c) g none w u = u
-give_fillers gaps place n (Some a) None g none w u = u
-give_fillers gaps place n (Some a) (Some c) g none w u = λ held k some.
+pub put_fillers : (gaps : List Extent) (place n : ℕ) (a c : Option (List ℕ)) → AreGaps gaps → MeetsNone place n gaps → Both (WritesGap place n) a c → Both (ChangesOnly (free_table ∷ range place n ∷ [])) a c → Both (KeepsFillers gaps (put_by_place (new_gap place n) gaps)) a c
+put_fillers gaps place n None None g none w u = tt
+put_fillers gaps place n None (Some c) g none w u = u
+put_fillers gaps place n (Some a) None g none w u = u
+put_fillers gaps place n (Some a) (Some c) g none w u = λ held k some.
     elim (gap_filler place n k gaps (subst (λ m. 0 < m) (filler_put k (new_gap place n) gaps) some)) [
       | inl h ↦ w.fills h.0 k h.1 h.2
       | inr h ↦ u.others k (apart k h) ∙ held k h
@@ -265,14 +266,95 @@ give_fillers gaps place n (Some a) (Some c) g none w u = λ held k some.
         out : holds_byte (range place n) k ≡ false
         out = outside (λ low high. let z = none k low high in let c = cover_kinds k gaps in omega (arith, z, c, some))
 
-pub give_threads : (gaps : List Extent) (place n : ℕ) (a c : Option (List ℕ)) → AreGaps gaps → MeetsNone place n gaps → 266 ≤ place → IfSome a (λ bytes. ThreadsFreeChunks bytes gaps) → Both (WritesGap place n) a c
-    → IfSome c (λ bytes. ThreadsFreeChunks bytes (give_alone place n gaps))
-give_threads gaps place n None None g none low t w = tt
-give_threads gaps place n None (Some c) g none low t w = absurd w
-give_threads gaps place n (Some a) None g none low t w = absurd w
-give_threads gaps place n (Some a) (Some c) g none low t w =
-    same_threads c (new_gap place n ∷ gaps) (give_alone place n gaps) (λ q m. sym (free_put q m (new_gap place n) gaps))
+pub put_threads : (gaps : List Extent) (place n : ℕ) (a c : Option (List ℕ)) → AreGaps gaps → MeetsNone place n gaps → 266 ≤ place → IfSome a (λ bytes. ThreadsFreeChunks bytes gaps) → Both (WritesGap place n) a c
+    → IfSome c (λ bytes. ThreadsFreeChunks bytes (put_by_place (new_gap place n) gaps))
+put_threads gaps place n None None g none low t w = tt
+put_threads gaps place n None (Some c) g none low t w = absurd w
+put_threads gaps place n (Some a) None g none low t w = absurd w
+put_threads gaps place n (Some a) (Some c) g none low t w =
+    same_threads c (new_gap place n ∷ gaps) (put_by_place (new_gap place n) gaps) (λ q m. sym (free_put q m (new_gap place n) gaps))
     (w.threads gaps (free_of_gaps gaps place n none) (free_of_gaps gaps FREE_TABLE_PLACE FREE_TABLE_LENGTH (low_apart gaps g)) low t)
+
+-- ---- a gap that is joined with the range
+
+pub unlisted_threads : (gaps : List Extent) (i : ℕ) (image : Option (List ℕ)) → i < length gaps → is_free (gap_at gaps i) ≡ false → IfSome image (λ bytes. ThreadsFreeChunks bytes gaps) → IfSome image (λ bytes. ThreadsFreeChunks bytes (remove gaps i))
+unlisted_threads gaps i None lt off t = tt
+unlisted_threads gaps i (Some bytes) lt off t = same_threads bytes gaps (remove gaps i) (λ q m. ap (count_of q m) (sym (free_unlisted i gaps lt off))) t
+
+-- the range q, m is the range place, n and the gap at i
+abbrev pub IsJoined : ℕ → ℕ → Extent → ℕ → ℕ → Type 0
+IsJoined place n g q m = (b : ℕ) → in_range q m b ≡ in_range place n b + in_range g.place g.length b
+
+range_join : (p n m b : ℕ) → in_range p (n + m) b ≡ in_range p n b + in_range (p + n) m b
+range_join p n m b = grind (arith, nat_tests)
+
+pub joined_left : (place n : ℕ) (g : Extent) → end_of g ≡ place → IsJoined place n g g.place (g.length + n)
+joined_left place n g e b = range_join g.place g.length n b ∙ ap (λ x. in_range g.place g.length b + in_range x n b) e ∙ plain (in_range g.place g.length b) (in_range place n b)
+  where
+    plain : (x y : ℕ) → x + y ≡ y + x
+    plain x y = omega arith
+
+pub joined_right : (place n : ℕ) (g : Extent) → g.place ≡ place + n → IsJoined place n g place (n + g.length)
+joined_right place n g e b = range_join place n g.length b ∙ ap (λ x. in_range place n b + in_range x g.length b) (sym e)
+
+joined_within : (place n q m i : ℕ) (gaps : List Extent) → i < length gaps → IsJoined place n (gap_at gaps i) q m → IsWithin (free_table ∷ range q m ∷ remove gaps i) (free_table ∷ range place n ∷ gaps)
+joined_within place n q m i gaps lt sum b none =
+    let one = none_holds free_table (range place n ∷ gaps) b none in
+    let two = none_holds (range place n) gaps b one.1 in
+    let table : holds_byte free_table b ≡ false = one.0 in
+    let off : holds_byte (range place n) b ≡ false = two.0 in
+    let here : in_range place n b ≡ 0 = rw off refl in
+    let s = sum b in
+    let c = cover_removed_gap gaps i b lt in
+    let z : cover gaps b ≡ 0 = two.1 in
+    rw table (omega (arith, here, s, c, z))
+
+lists_within : (place n : ℕ) (gaps : List Extent) → IsWithin (free_table ∷ filter is_free gaps) (free_table ∷ range place n ∷ gaps)
+lists_within place n gaps b none =
+    let one = none_holds free_table (range place n ∷ gaps) b none in
+    let table : holds_byte free_table b ≡ false = one.0 in
+    let z : cover gaps b ≡ 0 = (none_holds (range place n) gaps b one.1).1 in
+    let k = cover_kinds b gaps in rw table (omega (arith, z, k))
+
+pub alone_changes : (place n : ℕ) (gaps : List Extent) (a c : Option (List ℕ)) → Both (ChangesOnly (free_table ∷ range place n ∷ [])) a c → Both (ChangesOnly (free_table ∷ range place n ∷ gaps)) a c
+alone_changes place n gaps a c w =
+    widened (free_table ∷ range place n ∷ []) (free_table ∷ range place n ∷ gaps) a c
+    (λ b none. let one = none_holds free_table (range place n ∷ gaps) b none in let table : holds_byte free_table b ≡ false = one.0 in let off : holds_byte (range place n) b ≡ false = (none_holds (range place n) gaps b one.1).0 in rw (table, off)) w
+
+pub left_changes : (place n : ℕ) (gaps : List Extent) (a b : Option (List ℕ)) → Both (ChangesOnly (free_table ∷ filter is_free gaps)) a b → Both (ChangesOnly (free_table ∷ range place n ∷ gaps)) a b
+left_changes place n gaps a b v = widened (free_table ∷ filter is_free gaps) (free_table ∷ range place n ∷ gaps) a b (lists_within place n gaps) v
+
+pub joined_changes : (place n q m i : ℕ) (gaps : List Extent) (a b c : Option (List ℕ)) → i < length gaps → IsJoined place n (gap_at gaps i) q m → Both (ChangesOnly (free_table ∷ filter is_free gaps)) a b
+    → Both (ChangesOnly (free_table ∷ range q m ∷ remove gaps i)) b c → Both (ChangesOnly (free_table ∷ range place n ∷ gaps)) a c
+joined_changes place n q m i gaps a b c lt sum v w =
+    changes_then (free_table ∷ range place n ∷ gaps) a b c (left_changes place n gaps a b v) (widened (free_table ∷ range q m ∷ remove gaps i) (free_table ∷ range place n ∷ gaps) b c (joined_within place n q m i gaps lt sum) w)
+
+-- the fillers of the gaps that are left
+rest_fillers : (gaps : List Extent) (i : ℕ) (a b : Option (List ℕ)) → AreGaps gaps → Both (ChangesOnly (free_table ∷ filter is_free gaps)) a b → Both (KeepsFillers gaps (remove gaps i)) a b
+rest_fillers gaps i None None g v = tt
+rest_fillers gaps i None (Some b) g v = v
+rest_fillers gaps i (Some a) None g v = v
+rest_fillers gaps i (Some a) (Some b) g v = λ held k some.
+    let le = filler_removed i gaps k in
+    let more : 0 < cover (filter is_filler gaps) k = omega (arith, some, le) in v.others k (filler_apart gaps k g more) ∙ held k more
+
+fillers_then : (xs ys zs : List Extent) (a b c : Option (List ℕ)) → Both (KeepsFillers xs ys) a b → Both (KeepsFillers ys zs) b c → Both (KeepsFillers xs zs) a c
+fillers_then xs ys zs None None None v w = tt
+fillers_then xs ys zs None None (Some c) v w = w
+fillers_then xs ys zs None (Some b) c v w = absurd v
+fillers_then xs ys zs (Some a) None c v w = absurd v
+fillers_then xs ys zs (Some a) (Some b) None v w = w
+fillers_then xs ys zs (Some a) (Some b) (Some c) v w = λ held. w (v held)
+
+-- one gap is joined, and then the rest become others
+pub joined_become : (i : ℕ) (becomes after gaps new : List Extent) (a b c : Option (List ℕ)) → AreGaps gaps → becomes ≡ after → Both (ChangesOnly (free_table ∷ filter is_free gaps)) a b → BecomeGaps becomes (remove gaps i) new b c → BecomeGaps after gaps new a c
+joined_become i becomes after gaps new a b c g e v w = subst (λ xs. BecomeGaps xs gaps new a c) e (record { are = w.are; threads = w.threads; fillers = fillers_then gaps (remove gaps i) becomes a b c (rest_fillers gaps i a b g v) w.fillers })
+
+-- bytes that are told before a call are told after it
+pub untold_before : (xs : List Extent) (a b : Option (List ℕ)) → Both (ChangesOnly xs) a b → IsUntold b → IsUntold a
+untold_before xs None b c u = tt
+untold_before xs (Some a) None c u = absurd c
+untold_before xs (Some a) (Some b) c u = u
 
 -- bytes beside the free table and the free chunks stay
 pub fillers_stay : (xs gaps : List Extent) (a c : Option (List ℕ)) → AreGaps gaps → ((b : ℕ) → 266 ≤ b → cover xs b ≡ 0) → Both (ChangesOnly xs) a c → Both (KeepsFillers gaps gaps) a c

@@ -1,19 +1,20 @@
 -- The free space of a file in memory, and what its calls answer and change.
-use Rattle.std.specs.Prelude.{◌≡◌, ℕ, ◌+◌, ◌*◌, ◌<◌, ◌≤◌, ◌^◌, get_or, List, ◌∷◌, ◌++◌, length, filter, Option, Some, None, Result, Ok, Err, ⊤}
+use Rattle.std.specs.Prelude.{◌≡◌, ℕ, ◌+◌, ◌-◌, ◌*◌, ◌<◌, ◌≤◌, ◌^◌, get_or, List, ◌∷◌, ◌++◌, length, filter, Option, Some, None, IfSome, Result, Ok, Err, ⊤}
 use Rattle.std.specs.List.{AllByRecursion}
 use Rattle.std.specs.Global.{Vec}
+use Rattle.cg_io.specs.Blocks.{Both}
 use Rattle.cg_io.specs.Cause.{Rose}
 use Rattle.cg_io.specs.Device.{DeviceState}
 use Rattle.adf_format.specs.declared.types.Extent.{Extent}
 use Rattle.adf_format.specs.declared.types.ExtentKind.{ExtentKind}
-use Rattle.adf_format.specs.Tiles.{Tiles, cover, end_of, is_filler}
+use Rattle.adf_format.specs.Tiles.{Tiles, cover, end_of, is_filler, MeetsNone}
 use Rattle.adf_format.specs.Placement.{Heap, extent}
 use Rattle.adf_format.specs.LaysOut.{AreGapsInOrder, ThreadsFreeChunks}
 use Rattle.adf_format.specs.declared.fields.TheConstants.{HEADER_END}
 use Rattle.adf_format.specs.RecordFields.{field_in}
 use Rattle.adf_format.specs.Pointer.{PointsTo}
-use Rattle.file_heap.specs.Links.{AreApart}
-use Rattle.adf_format.specs.HeapRule.{heap_take, give_alone}
+use Rattle.file_heap.specs.Links.{AreApart, range}
+use Rattle.adf_format.specs.HeapRule.{heap_take}
 pub use Rattle.adf_format.specs.HeapBytes.{HoldsFillers, KeepsFillers, MovesEnd}
 use Rattle.adf_model.specs.declared.error.AdfError.{AdfError}
 use Rattle.adf_model.specs.declared.error.AdfError.TheVariants as error
@@ -59,9 +60,11 @@ Grows limit n old (Ok place) new = (old + 1 + n ≤ limit * 4096) × (place ≡ 
 Grows limit n old (Err (error.Full asked end)) new = (limit * 4096 < old + 1 + n) × (asked ≡ n) × (end ≡ old) × (new ≡ old)
 Grows limit n old (Err other) new = (old + 1 + n ≤ limit * 4096) × (new ≡ old)
 
--- a range is given to the gaps, where only fillers that touch are joined
-abbrev pub given : ℕ → ℕ → Heap → Heap
-given place n heap = record heap { gaps = give_alone place n heap.gaps }
+-- a range may be given: it lies behind the free table and up to the end, and meets no gap
+pub record MayGive (place n : ℕ) (heap : Heap) : Type 0 where
+  pub low : 266 ≤ place
+  pub high : place + n ≤ heap.end + 1
+  pub apart : MeetsNone place n heap.gaps
 
 -- bytes that are not told
 abbrev pub IsUntold : Option (List ℕ) → Type 0
@@ -99,7 +102,25 @@ pub record Looks (old new : DeviceState) : Type 0 where
   pub reads : old.reads ≤ new.reads
   pub faults : old.faults ≤ new.faults
 
+-- gaps became others, the lists thread their free chunks, and their fillers hold `z` where those before did
+pub record BecomeGaps (becomes old new : List Extent) (before after : Option (List ℕ)) : Type 0 where
+  pub are : new ≡ becomes
+  pub threads : IfSome after (λ bytes. ThreadsFreeChunks bytes becomes)
+  pub fillers : Both (KeepsFillers old becomes) before after
+
 -- ---- tiles
+
+-- a range that is taken lies behind the free table and up to the end
+abbrev pub IsTakenWithin : ℕ → Heap → ℕ → Type 0
+IsTakenWithin n new place = (266 ≤ place) × (place + n ≤ new.end + 1)
+
+-- the range and the gaps have the bytes that the gaps had, and those by which the end grew
+abbrev pub TakesCover : ℕ → Heap → Heap → ℕ → Type 0
+TakesCover n old new place = (b : ℕ) → cover (range place n ∷ new.gaps) b ≡ cover (range (old.end + 1) (new.end - old.end) ∷ old.gaps) b
+
+-- the gaps have the bytes of the range and those that they had
+abbrev pub GivesCover : ℕ → ℕ → Heap → Heap → Type 0
+GivesCover place n old new = (b : ℕ) → cover new.gaps b ≡ cover (range place n ∷ old.gaps) b
 
 -- a range that is taken was in none of the extents that tile the file with the gaps, and tiles it with them afterwards
 abbrev pub TakesOfTiles : ℕ → Heap → Heap → ℕ → Type 0

@@ -1,9 +1,9 @@
 // The gaps of a file by place, with no word of its bytes.
-ghost use Rattle.std.specs.Prelude.{◌≡◌, ◌^◌, ◌+◌, ◌≤◌, ◌<◌, ◌++◌, length, vec_len, vec_capacity, take, drop, insert, ◌&&◌, ◌==◌};
-ghost use Rattle.adf_format.specs.Tiles.{end_of, is_filler};
+ghost use Rattle.std.specs.Prelude.{◌≡◌, ◌^◌, ◌+◌, ◌≤◌, ◌<◌, ◌++◌, length, vec_len, vec_capacity, take, drop, ◌&&◌, ◌==◌, IsTrue, IsFalse};
+ghost use Rattle.adf_format.specs.Tiles.{end_of, is_filler, is_free, MeetsNone};
 ghost use Rattle.adf_format.specs.LaysOut.{AreGapsInOrder};
 ghost use Rattle.adf_format.specs.HeapRule as rule;
-ghost use Rattle.file_heap.specs.Gaps.{FitsAt, CountsBefore, gap_at, AllEndBy};
+ghost use Rattle.file_heap.specs.Gaps.{FitsAt, CountsBefore, EndsAt, BeginsAt, IsBesideGap, gap_at, put_by_place, AllEndBy};
 
 use adf_chunks::{Extent, ExtentKind};
 
@@ -12,6 +12,16 @@ fn is_fit(n: u64, gap: Extent) -> bool
 {
     match gap.kind {
         ExtentKind::FreeChunk => n <= gap.length,
+        _ => false,
+    }
+}
+
+/// Whether a gap is a free chunk.
+pub(crate) fn is_free(gap: Extent) -> bool
+    ensures { result ≡ is_free gap }
+{
+    match gap.kind {
+        ExtentKind::FreeChunk => true,
         _ => false,
     }
 }
@@ -54,17 +64,45 @@ pub(crate) fn find_fit(gaps: &[Extent], n: u64) -> Option<usize>
     None
 }
 
-// How many gaps begin at a place or before it.
+// How many gaps begin before a place.
 #[tactic(auto, using(crate::proofs::PutLaws::one_more_before))]
 fn count_before(gaps: &[Extent], place: u64) -> usize
     ensures { CountsBefore place gaps.now result }
 {
     for i in 0..gaps.len() {
-        if place < gaps[i].place {
+        if place <= gaps[i].place {
             return i;
         }
     }
     gaps.len()
+}
+
+/// Where the gap stands that ends just before a place.
+#[tactic(auto, using(crate::proofs::JoinLaws::one_more_end))]
+pub(crate) fn find_end(gaps: &[Extent], place: u64) -> Option<usize>
+    requires { AllEndBy (2 ^ 44) gaps.now }
+    ensures { EndsAt place gaps.now result }
+{
+    for i in 0..gaps.len() {
+        let gap = gap_of(gaps, i);
+        if gap.place + gap.length == place {
+            return Some(i);
+        }
+    }
+    None
+}
+
+/// Where the gap stands that begins at a place.
+#[tactic(auto, using(crate::proofs::JoinLaws::one_more_begin))]
+pub(crate) fn find_begin(gaps: &[Extent], place: u64) -> Option<usize>
+    ensures { BeginsAt place gaps.now result }
+{
+    for i in 0..gaps.len() {
+        if gap_of(gaps, i).place == place {
+            return Some(i);
+        }
+    }
+    None
 }
 
 // Whether two fillers touch.
@@ -131,34 +169,43 @@ pub(crate) fn cut_at(gaps: &mut Vec<Extent>, i: usize, n: u64)
 }
 
 /// One more gap, for which there is room.
-#[tactic(auto, using(crate::proofs::PutLaws::is_put, crate::proofs::PutLaws::is_put_first))]
-pub(crate) fn put_gap(gaps: &mut Vec<Extent>, gap: Extent)
-    requires order { AreGapsInOrder gaps.old.items }
-    requires short { AllEndBy (2 ^ 44) gaps.old.items }
-    requires last { end_of gap ≤ 2 ^ 44 }
-    requires room { vec_len gaps.old < vec_capacity gaps.old }
-    ensures { gaps.new.items ≡ rule.put_gap gap gaps.old.items }
+#[tactic(auto, using(crate::proofs::PutLaws::is_put))]
+pub(crate) fn put_in(gaps: &mut Vec<Extent>, gap: Extent)
+    requires { vec_len gaps.old < vec_capacity gaps.old }
+    ensures { gaps.new.items ≡ put_by_place gap gaps.old.items }
 {
     let i = count_before(gaps, gap.place);
-    put_at(gaps, i, gap);
-    if i > 0 {
-        join_at(gaps, i - 1);
-    }
-}
-
-#[tactic(auto, using(crate::proofs::PutLaws::short_insert))]
-// A gap at an index, made one with the gap behind it where they are fillers that touch.
-fn put_at(gaps: &mut Vec<Extent>, i: usize, gap: Extent)
-    requires there { i ≤ length gaps.old.items }
-    requires short { AllEndBy (2 ^ 44) gaps.old.items }
-    requires last { end_of gap ≤ 2 ^ 44 }
-    requires room { vec_len gaps.old < vec_capacity gaps.old }
-    ensures items { gaps.new.items ≡ take i gaps.old.items ++ rule.before_gaps gap (drop i gaps.old.items) }
-    ensures short { AllEndBy (2 ^ 44) gaps.new.items }
-{
     match gaps.insert(i, gap) {
         Ok(()) => {}
         Err(_) => unreachable!(),
     }
-    join_at(gaps, i);
+}
+
+// Whether a range is beside a gap.
+fn is_beside(gap: Extent, place: u64, n: u64) -> bool
+    requires near { place + n ≤ 2 ^ 45 }
+    requires short { end_of gap ≤ 2 ^ 44 }
+    ensures beside { IsTrue result → IsBesideGap place n gap }
+    ensures meets { IsFalse result → (gap.place < place + n) × (place < end_of gap) }
+{
+    if gap.place + gap.length <= place {
+        return true;
+    }
+    place + n <= gap.place
+}
+
+/// Whether a range meets none of the gaps.
+#[tactic(auto, using(crate::proofs::GiveTests::none_of, crate::proofs::GiveTests::one_more_beside))]
+pub(crate) fn meets_none(gaps: &[Extent], place: u64, n: u64) -> bool
+    requires near { place + n ≤ 2 ^ 45 }
+    requires short { AllEndBy (2 ^ 44) gaps.now }
+    ensures none { IsTrue result → MeetsNone place n gaps.now }
+    ensures all { 1 ≤ n → AreGapsInOrder gaps.now → MeetsNone place n gaps.now → IsTrue result }
+{
+    for i in 0..gaps.len() {
+        if !is_beside(gap_of(gaps, i), place, n) {
+            return false;
+        }
+    }
+    true
 }

@@ -1,16 +1,17 @@
 // The free space of a file.
-ghost use Rattle.std.specs.Prelude.{◌≡◌, ◌^◌, ◌+◌, ◌≤◌, ◌<◌, ◌∷◌, [], ◌++◌, length, filter, vec_len, Ok, IfOk, IfErr, IfSome, OnOk, OnErr};
+ghost use Rattle.std.specs.Prelude.{◌≡◌, ◌^◌, ◌+◌, ◌≤◌, ◌<◌, ◌∷◌, [], ◌++◌, length, filter, vec_len, Ok, IfOk, IfErr, IfSome, OnOk, OnErr, IsTrue};
 ghost use Rattle.cg_io.specs.Blocks.{Both};
 ghost use Rattle.adf_format.specs.Tiles.{is_free, MeetsNone};
 ghost use Rattle.adf_format.specs.Changes.{heap_fields};
 ghost use Rattle.adf_format.specs.LaysOut.{ThreadsFreeChunks};
-ghost use Rattle.adf_format.specs.HeapRule.{cut, give_alone};
+ghost use Rattle.adf_format.specs.HeapRule.{cut, give_joined, heap_give, pairs};
 ghost use Rattle.adf_model.specs.declared.error.AdfError.{AdfError};
 ghost use Rattle.file_heap.specs.Gaps.{IsFirstFit, gap_at};
 ghost use Rattle.file_heap.specs.Links.{AreGaps, ThreadsNone, range, free_table, end_pointer};
-ghost use Rattle.file_heap.specs.Heap.{IsHeap, gaps_in, TakesBy, Grows, given, IsUntold, IsRefusal, IsTakeRefusal, ChangesOnly, MovesEnd, KeepsThreads, KeepsFillers, Looks, TakesOfTiles, GivesToTiles};
+ghost use Rattle.file_heap.specs.Heap.{IsHeap, gaps_in, TakesBy, Grows, MayGive, IsUntold, IsRefusal, IsTakeRefusal, ChangesOnly, MovesEnd, KeepsThreads, KeepsFillers, BecomeGaps, Looks, IsTakenWithin, TakesOfTiles, TakesCover, GivesToTiles, GivesCover};
 
-use crate::gaps::{cut_at, find_fit, gap_of, new_gap, put_gap};
+use crate::gaps::{cut_at, find_fit, gap_of, meets_none};
+use crate::give::give_range;
 use crate::links::write_link;
 use crate::lists::{unlink, write_gap};
 use adf_chunks::{Extent, Extents};
@@ -82,7 +83,10 @@ impl Heap {
         ensures kept { self.new.kept ≡ self.old.kept }
         ensures limit { self.new.limit ≡ self.old.limit }
         ensures heap { IsHeap self.new.now }
+        ensures within { IfOk result (IsTakenWithin n self.new.now) }
         ensures tiles { IfOk result (TakesOfTiles n self.old.now self.new.now) }
+        ensures covers { IfOk result (TakesCover n self.old.now self.new.now) }
+        ensures pairs { pairs self.new.now.gaps ≤ pairs self.old.now.gaps }
         ensures threads { OnOk result (IfSome (S.image space.new) (λ bytes. ThreadsFreeChunks bytes self.new.now.gaps)) }
         ensures bytes { Both (ChangesOnly (heap_fields ++ self.old.now.gaps)) (S.image space.old) (S.image space.new) }
         ensures end { OnOk result (Both (MovesEnd self.old.now.end self.new.now.end) (S.image space.old) (S.image space.new)) }
@@ -96,7 +100,8 @@ impl Heap {
         }
     }
 
-    /// Gives n bytes at a place.
+    /// Gives n bytes at a place. They are joined with the gap that ends just before them, and with the gap that begins just
+    /// behind them.
     pub fn give<S: Space>(&mut self, space: &mut S, place: u64, n: u64) -> Result<(), AdfError>
         requires sound { S.is_sound space.old }
         requires some { 1 ≤ n }
@@ -104,12 +109,14 @@ impl Heap {
         requires within { (266 ≤ place) × (place + n ≤ self.old.now.end + 1) }
         requires threads { IfSome (S.image space.old) (λ bytes. ThreadsFreeChunks bytes self.old.now.gaps) }
         ensures sound { S.is_sound space.new }
-        ensures gives { OnOk result (self.new.now ≡ given place n self.old.now) }
+        ensures gives { OnOk result (self.new.now ≡ heap_give place n self.old.now) }
         ensures refused { OnErr result (self.new.now ≡ self.old.now) }
         ensures kept { self.new.kept ≡ self.old.kept }
         ensures limit { self.new.limit ≡ self.old.limit }
         ensures heap { IsHeap self.new.now }
         ensures tiles { OnOk result (GivesToTiles place n self.old.now self.new.now) }
+        ensures covers { OnOk result (GivesCover place n self.old.now self.new.now) }
+        ensures pairs { pairs self.new.now.gaps ≤ pairs self.old.now.gaps }
         ensures threads { OnOk result (IfSome (S.image space.new) (λ bytes. ThreadsFreeChunks bytes self.new.now.gaps)) }
         ensures bytes { Both (ChangesOnly (heap_fields ++ range place n ∷ self.old.now.gaps)) (S.image space.old) (S.image space.new) }
         ensures end { OnOk result (Both (MovesEnd self.old.now.end self.new.now.end) (S.image space.old) (S.image space.new)) }
@@ -136,6 +143,22 @@ impl Heap {
             self.kept = gaps;
         }
         self.kept_end = self.end;
+    }
+
+    /// Whether n bytes at a place may be given: they lie behind the free table and up to the end, and meet no gap.
+    #[tactic(auto, using(crate::proofs::HeapFacts::heap_gaps, crate::proofs::HeapFacts::gaps_short))]
+    pub fn may_give(&self, place: u64, n: u64) -> bool
+        requires { place + n ≤ 2 ^ 45 }
+        ensures may { IsTrue result → MayGive place n self.now.now }
+        ensures must { 1 ≤ n → MayGive place n self.now.now → IsTrue result }
+    {
+        if place < 266 {
+            return false;
+        }
+        if place + n > self.end + 1 {
+            return false;
+        }
+        meets_none(current(&self.work, &self.kept), place, n)
     }
 
     /// The last byte of the file.
@@ -276,38 +299,7 @@ fn take_front<S: Space>(
     taken
 }
 
-// Gives a range to the gaps.
-#[tactic(auto, using(crate::proofs::HeapFacts::gaps_short))]
-fn give_range<S: Space>(
-    space: &mut S,
-    gaps: &mut Vec<Extent>,
-    place: u64,
-    n: u64,
-) -> Result<(), AdfError>
-    requires sound { S.is_sound space.old }
-    requires gaps { AreGaps gaps.old.items }
-    requires apart { MeetsNone place n gaps.old.items }
-    requires low { 266 ≤ place }
-    requires high { place + n ≤ 2 ^ 44 }
-    requires threads { IfSome (S.image space.old) (λ bytes. ThreadsFreeChunks bytes gaps.old.items) }
-    ensures sound { S.is_sound space.new }
-    ensures gives { OnOk result (gaps.new.items ≡ give_alone place n gaps.old.items) }
-    ensures stays { OnErr result (gaps.new.items ≡ gaps.old.items) }
-    ensures threads { OnOk result (IfSome (S.image space.new) (λ bytes. ThreadsFreeChunks bytes (give_alone place n gaps.old.items))) }
-    ensures bytes { Both (ChangesOnly (free_table ∷ range place n ∷ [])) (S.image space.old) (S.image space.new) }
-    ensures fillers { OnOk result (Both (KeepsFillers gaps.old.items (give_alone place n gaps.old.items)) (S.image space.old) (S.image space.new)) }
-    ensures effect { Looks (S.state space.old) (S.state space.new) }
-    ensures cause { IfErr result (IsRefusal (IsUntold (S.image space.old)) (S.state space.old).faults (S.state space.new).faults) }
-{
-    if gaps.reserve(1).is_err() {
-        return Err(AdfError::Memory);
-    }
-    write_gap(space, place, n)?;
-    put_gap(gaps, new_gap(place, n));
-    Ok(())
-}
-
-// The same for the gaps in work.
+// Gives a range to the gaps, and keeps the gaps as they were where that is refused.
 fn give_back<S: Space>(
     space: &mut S,
     alloc: Global,
@@ -318,21 +310,20 @@ fn give_back<S: Space>(
 ) -> Result<(), AdfError>
     requires sound { S.is_sound space.old }
     requires gaps { AreGaps (gaps_in work.old kept.now.items) }
+    requires some { 1 ≤ n }
     requires apart { MeetsNone place n (gaps_in work.old kept.now.items) }
     requires low { 266 ≤ place }
     requires high { place + n ≤ 2 ^ 44 }
     requires threads { IfSome (S.image space.old) (λ bytes. ThreadsFreeChunks bytes (gaps_in work.old kept.now.items)) }
     ensures sound { S.is_sound space.new }
-    ensures gives { OnOk result (gaps_in work.new kept.now.items ≡ give_alone place n (gaps_in work.old kept.now.items)) }
+    ensures given { OnOk result (BecomeGaps (give_joined place n (gaps_in work.old kept.now.items)) (gaps_in work.old kept.now.items) (gaps_in work.new kept.now.items) (S.image space.old) (S.image space.new)) }
     ensures stays { OnErr result (gaps_in work.new kept.now.items ≡ gaps_in work.old kept.now.items) }
-    ensures threads { OnOk result (IfSome (S.image space.new) (λ bytes. ThreadsFreeChunks bytes (give_alone place n (gaps_in work.old kept.now.items)))) }
-    ensures bytes { Both (ChangesOnly (free_table ∷ range place n ∷ [])) (S.image space.old) (S.image space.new) }
-    ensures fillers { OnOk result (Both (KeepsFillers (gaps_in work.old kept.now.items) (give_alone place n (gaps_in work.old kept.now.items))) (S.image space.old) (S.image space.new)) }
+    ensures bytes { Both (ChangesOnly (free_table ∷ range place n ∷ gaps_in work.old kept.now.items)) (S.image space.old) (S.image space.new) }
     ensures effect { Looks (S.state space.old) (S.state space.new) }
     ensures cause { IfErr result (IsRefusal (IsUntold (S.image space.old)) (S.state space.old).faults (S.state space.new).faults) }
 {
-    let mut gaps = working(alloc, work, kept)?;
-    let given = give_range(space, &mut gaps, place, n);
+    let mut gaps = copy_of(alloc, current(work, kept))?;
+    give_range(space, &mut gaps, place, n)?;
     *work = Some(gaps);
-    given
+    Ok(())
 }

@@ -5,6 +5,7 @@
 #![tactic(auto)]
 
 mod gaps;
+mod give;
 mod heap;
 mod links;
 mod lists;

@@ -1,8 +1,8 @@
 //! Whether the conditions of the calls hold, as tests ask before they make them.
-ghost use Rattle.std.specs.Prelude.{◌≡◌, ◌≤◌, ◌^◌, ◌+◌, ◌⊎◌, IsTrue};
+ghost use Rattle.std.specs.Prelude.{◌≡◌, ◌≤◌, ◌^◌, ◌+◌, IsTrue};
 ghost use Rattle.std.specs.List.{AllByRecursion};
 ghost use Rattle.adf_format.specs.declared.types.Extent.{Extent};
-ghost use Rattle.adf_format.specs.Tiles.{end_of, MeetsNone};
+ghost use Rattle.adf_format.specs.Tiles.{end_of};
 ghost use Rattle.adf_format.specs.LaysOut.{IsGap, AreSeparate, StandsBefore, AreGapsInOrder};
 
 use adf_chunks::{Extent, ExtentKind};
@@ -62,33 +62,6 @@ pub fn are_gaps(gaps: &[Extent], end: u64) -> bool
                 return false;
             }
             are_gaps(rest, end)
-        }
-    }
-}
-
-fn is_apart(gap: Extent, place: u64, n: u64) -> bool
-    requires { place + n ≤ 2 ^ 45 }
-    ensures { IsTrue result → (end_of gap ≤ place) ⊎ (place + n ≤ gap.place) }
-{
-    if place + n <= gap.place {
-        return true;
-    }
-    gap.place <= place && gap.length <= place - gap.place
-}
-
-/// Whether a range meets none of the gaps.
-#[tactic(auto, using(crate::proofs::Apart::none_more))]
-pub fn meets_none(gaps: &[Extent], place: u64, n: u64) -> bool
-    requires { place + n ≤ 2 ^ 45 }
-    ensures { IsTrue result → MeetsNone place n gaps.now }
-{
-    match gaps {
-        [] => true,
-        [gap, rest @ ..] => {
-            if !is_apart(*gap, place, n) {
-                return false;
-            }
-            meets_none(rest, place, n)
         }
     }
 }

@@ -129,19 +129,20 @@ const THE_END: [Step; 6] = [
     },
 ];
 
+/// A filler is left, and a give joins it.
 const A_CHUNK_WITH_A_FILLER: [Step; 5] = [
     Step::Take { n: 41, place: 1058 },
-    Step::Give { place: 1068, n: 31 },
-    Step::Gaps {
-        are: &[(1068, 62, Filler), (3700, 100, FreeChunk)],
-    },
     Step::Bytes {
-        from: 1068,
+        from: 1099,
         to: 1130,
         are: b'z',
     },
+    Step::Give { place: 1068, n: 31 },
+    Step::Gaps {
+        are: &[(1068, 62, FreeChunk), (3700, 100, FreeChunk)],
+    },
     Step::Lists {
-        small: &[(3700, 100)],
+        small: &[(1068, 62), (3700, 100)],
         medium: &[],
         large: &[],
     },

@@ -315,6 +315,16 @@ pub fn nine_children(alloc: Global) -> Result<Bytes, Fail> {
     whole(space, made)
 }
 
+/// A file with this last byte and no free chunk.
+pub fn blank(alloc: Global, end: u64) -> Result<Bytes, Fail> {
+    if end >= 1 << 20 {
+        return Err("too long")?;
+    }
+    let mut space = Bytes::with_room(alloc, end as usize + 1)?;
+    let made = put_front(&mut space, end, &NO_LISTS);
+    whole(space, made)
+}
+
 /// Three free chunks in the small list, of which the last is long, one in the large list that is short, and a filler.
 pub fn chunks(alloc: Global) -> Result<Bytes, Fail> {
     let mut space = Bytes::with_room(alloc, 10_000)?;

@@ -1,7 +1,7 @@
 //! Calls of a heap and what is expected after them, as steps of a table.
 //!
 //! Each helper makes one call, where its condition holds, and has no clause.
-use crate::conditions::{are_gaps, meets_none};
+use crate::conditions::are_gaps;
 use crate::lists::{has_lists, names};
 use crate::spaces::{Bytes, Gap, extents, holds};
 use adf_chunks::Extents;
@@ -90,10 +90,10 @@ pub fn take(heap: &mut Heap, space: &mut Bytes, n: u64) -> Result<u64, AdfError>
 }
 
 pub fn give(heap: &mut Heap, space: &mut Bytes, place: u64, n: u64) -> Result<(), AdfError> {
-    if place < 266 || place >= 1 << 20 || n == 0 || n >= 1 << 20 || place + n - 1 > heap.end() {
+    if place >= 1 << 20 || n == 0 || n >= 1 << 20 {
         return Err(NOT_CALLED);
     }
-    if !meets_none(heap.gaps(), place, n) {
+    if !heap.may_give(place, n) {
         return Err(NOT_CALLED);
     }
     heap.give(space, place, n)

@@ -1,6 +1,6 @@
 //! Takes and gives on files made by hand, as tables of steps.
-use crate::spaces::{CHUNK_GAPS, Gap, chunks, nine_children};
-use crate::steps::{Step, run_on};
+use crate::spaces::{CHUNK_GAPS, Gap, blank, chunks, extents, nine_children};
+use crate::steps::{Step, has_gaps, new_heap, run, run_on, undo};
 use adf_chunks::ExtentKind::{Filler, FreeChunk};
 use std::test::Fail;
 
@@ -190,18 +190,18 @@ const THE_FIRST_OF_A_LIST: [Step; 3] = [
     },
 ];
 
-const GIVEN: [Gap; 8] = [
+const GIVEN: [Gap; 6] = [
     (1000, 200, FreeChunk),
-    (1200, 89, Filler),
+    (1200, 89, FreeChunk),
     (2000, 100, FreeChunk),
     (3000, 600, FreeChunk),
-    (4000, 64, FreeChunk),
-    (4064, 512, FreeChunk),
-    (4600, 511, FreeChunk),
-    (5200, 4096, FreeChunk),
+    (4000, 576, FreeChunk),
+    (4600, 4696, FreeChunk),
 ];
 
-const A_RANGE_IS_GIVEN: [Step; 11] = [
+/// Ranges that are joined with none, with a chunk before them, with a filler before them, with a chunk behind them, and
+/// with two gaps; a chunk and a filler that touched before stay apart.
+const A_RANGE_IS_GIVEN: [Step; 10] = [
     Step::Give {
         place: 5200,
         n: 4096,
@@ -213,23 +213,22 @@ const A_RANGE_IS_GIVEN: [Step; 11] = [
     Step::Give { place: 1240, n: 31 },
     Step::Give {
         place: 4600,
-        n: 511,
+        n: 600,
     },
     Step::Give { place: 1280, n: 9 },
-    Step::Give { place: 1271, n: 9 },
-    Step::Gaps { are: &GIVEN },
     Step::Bytes {
-        from: 1200,
+        from: 1280,
         to: 1289,
         are: b'z',
     },
+    Step::Give { place: 1271, n: 9 },
+    Step::Gaps { are: &GIVEN },
     Step::Lists {
-        small: &[(4600, 511), (2000, 100), (1000, 200), (3000, 600)],
-        medium: &[(4064, 512)],
-        large: &[(5200, 4096), (4000, 64)],
+        small: &[(1200, 89), (2000, 100), (1000, 200), (3000, 600)],
+        medium: &[(4000, 576)],
+        large: &[(4600, 4696)],
     },
-    Step::Undo,
-    Step::Gaps { are: &CHUNK_GAPS },
+    Step::End { is: 9999 },
 ];
 
 const ACCEPTED: [Gap; 5] = [
@@ -282,6 +281,112 @@ fn chunks_of_three_lists_are_taken_and_given(rt: HostRuntime) -> Result<(), Fail
         run_on(&rt, rt.alloc(), space, &CHUNK_GAPS, 9999, steps)?;
     }
     Ok(())
+}
+
+/// Four calls that leave the gaps as they were after the first round.
+const A_ROUND: [Step; 4] = [
+    Step::Take {
+        n: 180,
+        place: 1000,
+    },
+    Step::Give {
+        place: 1000,
+        n: 180,
+    },
+    Step::Take {
+        n: 500,
+        place: 3000,
+    },
+    Step::Give {
+        place: 3000,
+        n: 500,
+    },
+];
+
+#[test]
+fn a_hundred_calls_are_undone(rt: HostRuntime) -> Result<(), Fail> {
+    let before = chunks(rt.alloc())?;
+    let mut space = before.copy(rt.alloc())?;
+    let gaps = extents(rt.alloc(), &CHUNK_GAPS)?;
+    let mut heap = new_heap(rt.alloc(), &mut space, &gaps, 9999)?;
+    for _ in 0..25 {
+        run(&rt, &mut heap, &mut space, &A_ROUND)?;
+    }
+    undo(&mut heap);
+    assert!(rt; has_gaps(&heap, &CHUNK_GAPS));
+    // the lists are those of the bytes before the calls
+    space = before;
+    run(&rt, &mut heap, &mut space, &ANY_PLACE_OF_A_LIST)?;
+    Ok(())
+}
+
+/// Three of four nodes behind a table are deleted, that in the middle last.
+const THREE_NODES: [Step; 8] = [
+    Step::Give {
+        place: 1130,
+        n: 246,
+    },
+    Step::Give {
+        place: 1622,
+        n: 246,
+    },
+    Step::Lists {
+        small: &[(1622, 246), (1130, 246)],
+        medium: &[],
+        large: &[],
+    },
+    Step::Give {
+        place: 1376,
+        n: 246,
+    },
+    Step::Gaps {
+        are: &[(1130, 738, FreeChunk)],
+    },
+    Step::Lists {
+        small: &[],
+        medium: &[(1130, 738)],
+        large: &[],
+    },
+    Step::End { is: 1867 },
+    Step::Last { is: 1867 },
+];
+
+/// A node in front of a filler is deleted.
+const BEFORE_A_FILLER: [Step; 4] = [
+    Step::Give {
+        place: 1376,
+        n: 246,
+    },
+    Step::Gaps {
+        are: &[(1376, 256, FreeChunk)],
+    },
+    Step::Lists {
+        small: &[(1376, 256)],
+        medium: &[],
+        large: &[],
+    },
+    Step::End { is: 1631 },
+];
+
+#[test]
+fn what_is_deleted_is_one_gap(rt: HostRuntime) -> Result<(), Fail> {
+    run_on(
+        &rt,
+        rt.alloc(),
+        blank(rt.alloc(), 1867)?,
+        &[],
+        1867,
+        &THREE_NODES,
+    )?;
+    let filler = [(1622, 10, Filler)];
+    run_on(
+        &rt,
+        rt.alloc(),
+        blank(rt.alloc(), 1631)?,
+        &filler,
+        1631,
+        &BEFORE_A_FILLER,
+    )
 }
 
 /// Gaps of which the bytes do not tell.

@@ -1,11 +1,12 @@
-use Rattle.std.proofs.Common.{◌++◌, subst, sym}
+use Rattle.std.proofs.Common.{◌++◌, ◌≤◌, subst, sym}
 use Rattle.std.specs.Prelude.{OnOk, IfOk, IfSome}
 use Rattle.cg_io.specs.Blocks.{Both}
 use Rattle.adf_format.specs.LaysOut.{ThreadsFreeChunks}
 use Rattle.adf_format.specs.Changes.{heap_fields}
-use Rattle.file_heap.specs.Heap.{HeapState, TakesBy, TakesOfTiles, MovesEnd, KeepsFillers, ChangesOnly, IsUntold, gaps_in}
+use Rattle.adf_format.specs.HeapRule.{pairs}
+use Rattle.file_heap.specs.Heap.{HeapState, TakesBy, TakesOfTiles, TakesCover, MovesEnd, KeepsFillers, ChangesOnly, IsUntold, gaps_in}
 use Rattle.file_heap.proofs.HeapFacts.{heap_gaps}
-use Rattle.file_heap.proofs.CallLaws.{heap_of, grown_takes, grown_heap, grown_lists, grown_fillers, grown_changes, takes_of_tiles, cut_takes, cut_heap, cut_changed, cut_end}
+use Rattle.file_heap.proofs.CallLaws.{heap_of, grown_takes, grown_heap, grown_lists, grown_fillers, grown_changes, takes_of_tiles, takes_cover, taken_pairs, cut_takes, cut_heap, cut_changed, cut_end}
 use Rattle.file_heap.proofs.heap.Heap.take.Goals as goal
 
 pub returns-in-None-clause-takes : goal.returns-in-None-clause-takes
@@ -91,3 +92,9 @@ returns-in-Some-clause-end g c =
     subst (λ (s : HeapState). OnOk c.take_front.result (Both (MovesEnd s.now.end c.self.inside.end) (g.S.ReadBytes.image c.args.space.now) (g.S.ReadBytes.image c.take_front.new.space))) c.self.view_is
     (cut_end c.take_front.result (heap_of (gaps_in c.self.inside.work c.self.inside.kept.items) c.self.inside.end) (g.S.ReadBytes.image c.args.space.now) (g.S.ReadBytes.image c.take_front.new.space) c.self.invariant.now_is
     (subst (λ (s : HeapState). IfSome (g.S.ReadBytes.image c.args.space.now) (λ bytes. ThreadsFreeChunks bytes s.now.gaps)) (sym c.self.view_is) c.requires.threads) c.take_front.ensures.bytes)
+
+pub returns-in-Some-clause-covers : goal.returns-in-Some-clause-covers
+returns-in-Some-clause-covers g c = subst (λ (s : HeapState). IfOk c.take_front.result (TakesCover c.args.n s.now (heap_of (gaps_in c.take_front.new.work c.self.inside.kept.items) c.self.inside.end))) c.self.view_is (takes_cover c.self.inside.limit c.args.n (heap_of (gaps_in c.self.inside.work c.self.inside.kept.items) c.self.inside.end) (heap_of (gaps_in c.take_front.new.work c.self.inside.kept.items) c.self.inside.end) c.take_front.result (cut_takes c.self.inside.limit c.args.n (gaps_in c.self.inside.work c.self.inside.kept.items) (gaps_in c.take_front.new.work c.self.inside.kept.items) c.self.inside.end c.in-Some.i (g.S.ReadBytes.state c.args.space.now).faults (g.S.ReadBytes.state c.take_front.new.space).faults (IsUntold (g.S.ReadBytes.image c.args.space.now)) c.take_front.result (rw c.current.ensures at c.in-Some.ensures) c.take_front.ensures.place c.take_front.ensures.cut c.take_front.ensures.stays c.take_front.ensures.cause))
+
+pub returns-in-Some-clause-pairs : goal.returns-in-Some-clause-pairs
+returns-in-Some-clause-pairs g c = subst (λ (s : HeapState). pairs (gaps_in c.take_front.new.work c.self.inside.kept.items) ≤ pairs s.now.gaps) c.self.view_is (taken_pairs c.self.inside.limit c.args.n (heap_of (gaps_in c.self.inside.work c.self.inside.kept.items) c.self.inside.end) (heap_of (gaps_in c.take_front.new.work c.self.inside.kept.items) c.self.inside.end) c.take_front.result c.requires.some.0 c.self.invariant.now_is (cut_takes c.self.inside.limit c.args.n (gaps_in c.self.inside.work c.self.inside.kept.items) (gaps_in c.take_front.new.work c.self.inside.kept.items) c.self.inside.end c.in-Some.i (g.S.ReadBytes.state c.args.space.now).faults (g.S.ReadBytes.state c.take_front.new.space).faults (IsUntold (g.S.ReadBytes.image c.args.space.now)) c.take_front.result (rw c.current.ensures at c.in-Some.ensures) c.take_front.ensures.place c.take_front.ensures.cut c.take_front.ensures.stays c.take_front.ensures.cause))
