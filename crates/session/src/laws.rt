@@ -1,7 +1,7 @@
 //! Laws of sessions. No function here does anything: its contract is the law.
 
-ghost use Rattle.std.specs.Prelude.{ℕ, ◌+◌, ◌-◌, ◌^◌, ◌<◌, ◌≤◌, List};
-ghost use Rattle.adf_model.specs.Slots.{Files, Devices, device_at, IsTold};
+ghost use Rattle.std.specs.Prelude.{◌≡◌, ℕ, ◌+◌, ◌-◌, ◌^◌, ◌<◌, ◌≤◌, List};
+ghost use Rattle.adf_model.specs.Slots.{Files, Devices, device_at, IsTold, names_there};
 ghost use Rattle.adf_model.specs.Steps.{NoCountFell, AllLaidOut};
 ghost use Rattle.adf_model.specs.FaultReplies.{fault_replies, total_faults};
 ghost use Rattle.session.specs.Turns.{Turn, Ran, Stepped, calls_of};
@@ -14,10 +14,11 @@ pub fn faults_bound_replies()
 {}
 
 /// Over devices that tell each turn is a step of the trees, and each state of a session tells and is
-/// laid out; no count of a device ever falls.
+/// laid out; no count of a device ever falls, and each file that is there keeps its name.
 pub fn sessions_are_steps()
     ensures steps { (files after : Files) (before now : Devices) (turns : List Turn) → Ran files before turns now after → IsTold files before → Stepped files before turns now after }
     ensures told { (files after : Files) (before now : Devices) (turns : List Turn) → Ran files before turns now after → IsTold files before → IsTold after now }
     ensures laid_out { (files after : Files) (before now : Devices) (turns : List Turn) → Ran files before turns now after → AllLaidOut files before → AllLaidOut after now }
     ensures counts { (files after : Files) (before now : Devices) (turns : List Turn) → Ran files before turns now after → NoCountFell before now }
+    ensures names { (files after : Files) (before now : Devices) (turns : List Turn) → Ran files before turns now after → names_there after ≡ names_there files }
 {}

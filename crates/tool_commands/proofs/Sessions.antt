@@ -2,13 +2,13 @@
 use Rattle.std.proofs.Common.{◌≡◌, ℕ, ◌≤◌, zero, suc, List, [], ◌∷◌, length, map, refl, sym, ◌∙◌, ap, subst}
 use Rattle.std.specs.Prelude.{Option, Some, None}
 use Rattle.std.specs.Io.KnownBytes.{Consumes, IsAtEnd}
-use Rattle.adf_model.specs.Slots.{Files, Device, Devices, device_at, IsTold, entry_files}
-use Rattle.adf_model.specs.Steps.{NoneFell, NoCountFell, AllLaidOut}
+use Rattle.adf_model.specs.Slots.{Files, Device, Devices, device_at, entry_files, names_there}
+use Rattle.adf_model.specs.Steps.{NoneFell, NoCountFell}
 use Rattle.adf_model.proofs.LayoutLemmas.{laid_out_at_entry}
 use Rattle.cg_io.specs.Cause.{Rose}
 use Rattle.plain_library.specs.Library.{shelf_files, shelf_devices, standing_name, unplaced}
 use Rattle.plain_library.specs.Shelf.{SlotState}
-use Rattle.session.specs.Calls.{names_there}
+use Rattle.session.proofs.Faults.{ran_counts, ran_laid_out, ran_names}
 use Rattle.session.specs.Session.{HasRun, IsBounded}
 use Rattle.session.specs.declared.session.Ended.{Ended}
 use Rattle.session.specs.declared.session.Ended.TheVariants as ended
@@ -33,24 +33,19 @@ entry_names (Some name ∷ names) = ap (λ (l : List (Option (List ℕ))). Some 
 
 -- what was told of the run, once all files are closed
 pub ended_so : (how : Ended) (old new : List SlotState) (files left : Files) (devices now_devices : Devices) (before now : Streams)
-    → files ≡ shelf_files old → devices ≡ shelf_devices old
-    → (IsTold files devices → HasRun how (scene files devices before) (scene left now_devices now))
-    → (IsTold files devices → AllLaidOut files devices → AllLaidOut left now_devices)
-    → NoCountFell devices now_devices → names_there left ≡ names_there files
+    → files ≡ shelf_files old → devices ≡ shelf_devices old → HasRun how (scene files devices before) (scene left now_devices now)
     → shelf_devices new ≡ map unplaced now_devices → map standing_name new ≡ names_there left
     → ((bytes : List ℕ) × Consumes before.left now.left bytes × IsBounded how (length bytes))
     → (how ≡ ended.Done → IsAtEnd now.left) → (how ≡ ended.SourceFault → Rose before.source_faults now.source_faults) → (how ≡ ended.SinkFault → Rose before.sink_faults now.sink_faults)
     → before.source_faults ≤ now.source_faults → before.sink_faults ≤ now.sink_faults → SessionEnds how old new before now
-ended_so how old new files left devices now_devices before now files_are devices_are run laid counts names left_are names_are bound end source sink source_later sink_later = record {
+ended_so how old new files left devices now_devices before now files_are devices_are has_run left_are names_are bound end source sink source_later sink_later = record {
   files = left;
   devices = now_devices;
-  run = subst (λ (fs : Files). IsTold fs (shelf_devices old) → HasRun how (scene fs (shelf_devices old) before) (scene left now_devices now)) files_are
-      (subst (λ (ds : Devices). IsTold files ds → HasRun how (scene files ds before) (scene left now_devices now)) devices_are run);
-  laid_out = λ told. subst (λ (fs : Files). IsTold fs (shelf_devices old) → AllLaidOut fs (shelf_devices old) → AllLaidOut left now_devices) files_are
-      (subst (λ (ds : Devices). IsTold files ds → AllLaidOut files ds → AllLaidOut left now_devices) devices_are laid) told (laid_out_at_entry (map standing_name old) (shelf_devices old));
+  run = run;
+  laid_out = ran_laid_out (shelf_files old) left (shelf_devices old) now_devices run.turns run.ran (laid_out_at_entry (map standing_name old) (shelf_devices old));
   left = left_are;
-  names = names_are ∙ names ∙ ap names_there files_are ∙ entry_names (map standing_name old);
-  counts = counts_left (shelf_devices old) now_devices (shelf_devices new) left_are (subst (λ (ds : Devices). NoCountFell ds now_devices) devices_are counts);
+  names = names_are ∙ ran_names (shelf_files old) left (shelf_devices old) now_devices run.turns run.ran ∙ entry_names (map standing_name old);
+  counts = counts_left (shelf_devices old) now_devices (shelf_devices new) left_are (ran_counts (shelf_files old) left (shelf_devices old) now_devices run.turns run.ran);
   bound = bound;
   end = end;
   source = source;
@@ -58,3 +53,7 @@ ended_so how old new files left devices now_devices before now files_are devices
   source_later = source_later;
   sink_later = sink_later;
 }
+  where
+    run : HasRun how (scene (shelf_files old) (shelf_devices old) before) (scene left now_devices now)
+    run = subst (λ (fs : Files). HasRun how (scene fs (shelf_devices old) before) (scene left now_devices now)) files_are
+        (subst (λ (ds : Devices). HasRun how (scene files ds before) (scene left now_devices now)) devices_are has_run)

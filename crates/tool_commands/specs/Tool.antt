@@ -5,7 +5,7 @@ use Rattle.std.specs.Str.{bytes_eq}
 use Rattle.std.specs.Io.KnownBytes.{Consumes, IsAtEnd}
 use Rattle.adf_model.specs.declared.error.AdfError.{AdfError}
 use Rattle.adf_model.specs.declared.error.AdfError.TheVariants as error
-use Rattle.adf_model.specs.Slots.{Files, Devices, IsTold}
+use Rattle.adf_model.specs.Slots.{Files, Devices}
 use Rattle.adf_model.specs.Steps.{AllLaidOut, NoCountFell}
 use Rattle.cg_io.specs.Cause.{Rose}
 use Rattle.cg_io.specs.Device.{DeviceState}
@@ -140,14 +140,15 @@ session_status ended.Memory = status.Memory
 session_status ended.TooLong = status.TooLong
 
 -- A session over the files of a shelf, which are closed at first and hold any bytes.
--- Where the devices tell their bytes, it is a run of the abstract trees over the lines of the input, and
--- what is printed are the replies of that run; and each file that is open at the end, or was closed, is a
--- layout of its tree. All files are closed then, and the shelf has the devices as the run left them.
+-- It is a run over the lines of the input, and what is printed are the replies of that run: each line whose
+-- devices tell their bytes is a step of the abstract trees, and each other one has its cause. Each file that is
+-- open at the end, or was closed, is a layout of its tree where its device tells. All files are closed then,
+-- and the shelf has the devices as the run left them.
 pub record SessionEnds (how : Ended) (old new : List SlotState) (before now : Streams) : Type 0 where
   pub files : Files
   pub devices : Devices
-  pub run : IsTold (shelf_files old) (shelf_devices old) → HasRun how (scene (shelf_files old) (shelf_devices old) before) (scene files devices now)
-  pub laid_out : IsTold (shelf_files old) (shelf_devices old) → AllLaidOut files devices
+  pub run : HasRun how (scene (shelf_files old) (shelf_devices old) before) (scene files devices now)
+  pub laid_out : AllLaidOut files devices
   pub left : shelf_devices new ≡ map unplaced devices
   pub names : map standing_name new ≡ map standing_name old
   pub counts : NoCountFell (shelf_devices old) (shelf_devices new)

@@ -14,5 +14,5 @@ returns-clause-session g c =
     ended_so c.run_session-how.result (slots_of state c.args.shelf.now) (slots_of state c.finish.result) (files_of c.in-Ok.made) (files_of left) (devices_of state c.in-Ok.made) (devices_of state left) _ _
     (c.in-Ok.ensures.files ∙ ap (λ (s : Shelf _). shelf_files (slots_of state s)) c.replace-taken.ensures.value)
     (c.in-Ok.ensures.devices ∙ ap (λ (s : Shelf _). shelf_devices (slots_of state s)) c.replace-taken.ensures.value)
-    said.run said.laid_out said.counts said.names c.finish.ensures.devices (ap (map standing_name) c.finish.ensures.slots ∙ slot_names state left.slots.items)
+    said.run c.finish.ensures.devices (ap (map standing_name) c.finish.ensures.slots ∙ slot_names state left.slots.items)
     said.bound said.end said.source said.sink said.source_later said.sink_later
