@@ -9,6 +9,3 @@ mod cache;
 mod entries;
 
 pub use cache::BlockCache;
-
-#[cfg(test)]
-mod tests;

@@ -8,6 +8,3 @@ mod changes;
 mod draft;
 
 pub use draft::Draft;
-
-#[cfg(test)]
-mod tests;

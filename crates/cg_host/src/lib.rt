@@ -5,8 +5,6 @@
 
 mod device;
 mod stream;
-#[cfg(test)]
-mod tests;
 
 pub use device::HostDevice;
 pub use stream::{HostSink, HostSource};

@@ -11,8 +11,6 @@ mod memory_stream;
 mod pages;
 mod space;
 mod stream;
-#[cfg(test)]
-mod tests;
 
 pub use access::{read_bytes, write_bytes};
 pub use blocks::{BlockFault, Blocks};
