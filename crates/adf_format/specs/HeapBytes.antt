@@ -1,10 +1,15 @@
--- What calls of the heap leave of the bytes: fillers hold `z`, and the end pointer names the end.
-use Rattle.std.specs.Prelude.{◌≡◌, ℕ, ◌<◌, List, filter, slice_index}
+-- What a call changes of the bytes that it is lent, read with zeros past their end; and what calls of the heap leave: fillers hold `z`, and the end pointer names the end.
+use Rattle.std.specs.Prelude.{◌≡◌, ℕ, ◌<◌, ◌≤◌, List, length, filter, slice_index}
 use Rattle.adf_format.specs.declared.types.Extent.{Extent}
 use Rattle.adf_format.specs.declared.fields.TheConstants.{HEADER_END}
 use Rattle.adf_format.specs.RecordFields.{field_in}
 use Rattle.adf_format.specs.Pointer.{PointsTo}
 use Rattle.adf_format.specs.Tiles.{cover, is_filler}
+
+-- no byte is lost, and each that lies in none of the ranges reads as before, with zeros past the end
+pub record ChangesOnly (ranges : List Extent) (old new : List ℕ) : Type 0 where
+  pub longer : length old ≤ length new
+  pub others : (b : ℕ) → cover ranges b ≡ 0 → slice_index new b ≡ slice_index old b
 
 -- each byte of the fillers among some gaps is `z`
 abbrev pub HoldsFillers : List ℕ → List Extent → Type 0

@@ -1,8 +1,9 @@
 -- Fields of bytes that may be told, and what a write changes of the bytes.
-use Rattle.std.specs.Prelude.{◌≡◌, ℕ, ◌+◌, ◌≤◌, List, Option, IfSome, length, get_or}
+use Rattle.std.specs.Prelude.{◌≡◌, ℕ, ◌+◌, ◌≤◌, List, Option, IfSome, length}
 use Rattle.adf_format.specs.declared.types.Extent.{Extent}
 use Rattle.adf_format.specs.declared.types.ExtentKind.{ExtentKind}
 use Rattle.adf_format.specs.Fields.{field}
+pub use Rattle.adf_format.specs.HeapBytes.{ChangesOnly}
 use Rattle.adf_format.specs.Placement.{extent}
 use Rattle.adf_format.specs.Tiles.{cover}
 
@@ -13,11 +14,6 @@ WhereTold held place n P = IfSome held (λ bytes. place + n ≤ length bytes →
 -- some bytes in a row
 abbrev pub range : ℕ → ℕ → Extent
 range place length = extent ExtentKind.FreeChunk place length
-
--- no byte is lost, and each that lies in none of the ranges reads as before, with zeros past the end
-pub record ChangesOnly (ranges : List Extent) (old new : List ℕ) : Type 0 where
-  pub longer : length old ≤ length new
-  pub others : (b : ℕ) → cover ranges b ≡ 0 → get_or new b 0 ≡ get_or old b 0
 
 -- what lies in none of the one ranges lies in none of the others
 abbrev pub IsWithin : List Extent → List Extent → Type 0

@@ -15,7 +15,7 @@ use Rattle.adf_format.specs.RecordFields.{field_in}
 use Rattle.adf_format.specs.Pointer.{PointsTo}
 use Rattle.file_heap.specs.Links.{AreApart, range}
 use Rattle.adf_format.specs.HeapRule.{heap_take}
-pub use Rattle.adf_format.specs.HeapBytes.{HoldsFillers, KeepsFillers, MovesEnd}
+pub use Rattle.adf_format.specs.HeapBytes.{ChangesOnly, HoldsFillers, KeepsFillers, MovesEnd}
 use Rattle.adf_model.specs.declared.error.AdfError.{AdfError}
 use Rattle.adf_model.specs.declared.error.AdfError.TheVariants as error
 
@@ -84,11 +84,6 @@ IsTakeRefusal unread before now (error.Full asked end) = ⊤
 IsTakeRefusal unread before now other = IsRefusal unread before now other
 
 -- ---- the bytes
-
--- no byte is lost, and each that lies in none of the ranges reads as before, with zeros past the end
-pub record ChangesOnly (ranges : List Extent) (old new : List ℕ) : Type 0 where
-  pub longer : length old ≤ length new
-  pub others : (b : ℕ) → cover ranges b ≡ 0 → get_or new b 0 ≡ get_or old b 0
 
 -- the lists thread the free chunks among gaps as before
 abbrev pub KeepsThreads : List ℕ → List ℕ → Type 0
