@@ -3,7 +3,6 @@
 
 #![tactic(auto)]
 
-ghost use Rattle.std.specs.Prelude.{IfOk};
 ghost use Rattle.plain_library.specs.Shelf.{IsShelf, IsWhole};
 
 use adf_model::{AdfError, Text};
@@ -34,17 +33,17 @@ fn read_words(rt: &HostRuntime) -> Result<Vec<String>, AllocError> {
     Ok(words)
 }
 
-// One device for each word after the first, under that word; a repeated word once. A word past the last
-// number stays without a device, so that the words are not right.
-fn shelf_of(rt: &HostRuntime, words: &[String]) -> Result<Shelf<Box<dyn Device>>, AllocError>
-    ensures whole { IfOk result IsWhole }
-    ensures shelf { IfOk result IsShelf }
-{
+// Runs the command of the words on files, standard input and standard output. There is one device for
+// each word after the first, under that word; a repeated word has one. A word past the last number stays
+// without a device, so that the words are not right. No function of its own makes the shelf, since boxes of
+// a trait's values may not be handed out.
+fn run(rt: &HostRuntime) -> Result<Status, AllocError> {
     let alloc = rt.alloc();
+    let words = read_words(rt)?;
     let mut shelf = Shelf::new(alloc);
     'shelving: for word in words.iter().skip(1) {
         if shelf.len() >= MOST_DEVICES {
-            return Ok(shelf);
+            break;
         }
         let name = Text::new(word.as_bytes().to_vec(alloc)?);
         let device: Box<dyn Device> = Box::new(alloc, HostDevice::new(rt.clone()?, word.clone()?))?;
@@ -52,16 +51,9 @@ fn shelf_of(rt: &HostRuntime, words: &[String]) -> Result<Shelf<Box<dyn Device>>
             return Err(AllocError);
         }
     }
-    Ok(shelf)
-}
-
-// Runs the command of the words on files, standard input and standard output.
-fn run(rt: &HostRuntime) -> Result<Status, AllocError> {
-    let words = read_words(rt)?;
-    let mut shelf = shelf_of(rt, &words)?;
     let mut input = HostSource::new(rt.clone()?);
     let mut output = HostSink::new(rt.clone()?);
-    Ok(run_tool(rt.alloc(), &words, &mut shelf, &mut input, &mut output))
+    Ok(run_tool(alloc, &words, &mut shelf, &mut input, &mut output))
 }
 
 fn main(rt: HostRuntime) -> ExitCode {

@@ -1,5 +1,5 @@
 use Rattle.plain_library.specs.Shelf.{IsWhole, IsShelf}
-use Rattle.cgns_tool.proofs.shelf_of.Given as goal
+use Rattle.cgns_tool.proofs.run.Given as goal
 
 -- no device is taken yet, and each number fits its type
 abbrev pub invariant-shelving : goal.invariant-shelving
