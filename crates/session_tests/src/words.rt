@@ -5,7 +5,7 @@ ghost use Rattle.std.specs.Prelude.{IfOk, OnOk};
 
 use crate::fixtures::{device_of, source_of, text_of, words_of};
 use crate::runs::{Fault, Left, Run, wrong_part};
-use adf_model::AdfError;
+use adf_model::{AdfError, Text};
 use cg_io::{Device, MemorySink};
 use plain_library::Shelf;
 use std::alloc::Global;
@@ -57,12 +57,11 @@ fn wrong_words_print_the_usage_line_and_touch_nothing(rt: HostRuntime) -> Result
     Ok(())
 }
 
-// Puts one more file on a shelf of at most one.
+// Puts one more device on a shelf of at most one.
 fn add_file(
-    alloc: Global,
     shelf: &mut Shelf<Box<dyn Device>>,
-    name: &[u8],
-    held: &[u8],
+    name: Text,
+    device: Box<dyn Device>,
 ) -> Result<(), Fail>
     requires { IsWhole shelf.old }
     ensures whole { IsWhole shelf.new }
@@ -71,8 +70,7 @@ fn add_file(
     if shelf.len() > 1 {
         return Err(Fail::from(AdfError::TooLarge));
     }
-    let device: Box<dyn Device> = Box::new(alloc, device_of(alloc, held)?)?;
-    match shelf.add(text_of(alloc, name)?, device) {
+    match shelf.add(name, device) {
         Ok(_) => Ok(()),
         Err((error, _)) => Err(Fail::from(error)),
     }
@@ -83,9 +81,11 @@ fn two_files(alloc: Global) -> Result<Shelf<Box<dyn Device>>, Fail>
     ensures whole { IfOk result IsWhole }
     ensures shelf { IfOk result IsShelf }
 {
+    let first: Box<dyn Device> = Box::new(alloc, device_of(alloc, b"abc")?)?;
+    let second: Box<dyn Device> = Box::new(alloc, device_of(alloc, b"")?)?;
     let mut shelf = Shelf::new(alloc);
-    add_file(alloc, &mut shelf, b"a.adf", b"abc")?;
-    add_file(alloc, &mut shelf, b"b.adf", b"")?;
+    add_file(&mut shelf, text_of(alloc, b"a.adf")?, first)?;
+    add_file(&mut shelf, text_of(alloc, b"b.adf")?, second)?;
     Ok(shelf)
 }
 
