@@ -7,3 +7,4 @@ pub mod Deletes
 pub mod Data
 pub mod Groups
 pub mod Reading
+pub mod Whole

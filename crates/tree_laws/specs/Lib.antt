@@ -31,3 +31,5 @@ pub mod Switches
 pub mod MoreSwitches
 pub mod Erasing
 pub mod Reading
+pub mod MidEdit
+pub mod Spared
