@@ -228,7 +228,7 @@ changed_before_end old new end n changed le reach tail = elim (cases_lt end (n *
     none past =
         let fits : n * 4096 + 4096 ≤ length old = omega (arith, past, le, reach) in
         let same : bytes_at old (n * 4096) 4096 ≡ bytes_at new (n * 4096) 4096 = same_number_lists _ _ (length-bytes_at old (n * 4096) 4096 ∙ sym (length-bytes_at new (n * 4096) 4096))
-            (λ i few. each i past (let w = length-bytes_at old (n * 4096) 4096 in omega (arith, w, few))) in
+        (λ i few. each i past (let w = length-bytes_at old (n * 4096) 4096 in omega (arith, w, few))) in
         not_true (sym (not_changed fits same) ∙ changed)
       where
         each : (i : ℕ) → end < n * 4096 → i < 4096 → get_or (bytes_at old (n * 4096) 4096) i 0 ≡ get_or (bytes_at new (n * 4096) 4096) i 0

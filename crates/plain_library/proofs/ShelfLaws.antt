@@ -4,7 +4,6 @@ use Rattle.std.specs.Prelude.{Option, Some, None, option_map, if◌then◌else�
 use Rattle.std.specs.List.{All}
 use Rattle.adf_model.specs.Slots.{File, Files, Device, Devices, entry_file, name_there, names_there}
 use Rattle.cg_io.specs.Device.{DeviceState}
-
 use Rattle.plain_library.proofs.OpenedSlot.{never_gone}
 use Rattle.plain_library.specs.declared.open_file.Work.{Work}
 use Rattle.plain_library.specs.declared.open_file.Work.TheVariants as work

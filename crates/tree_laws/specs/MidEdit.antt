@@ -44,7 +44,7 @@ MidGoesOn =
     → ChangesOnly (heap_fields ++ written) b c
     → ((k : ℕ) → 0 < cover written k → 0 < cover ((taken ++ q.heap.gaps) ++ ranges) k)
     → ((k : ℕ) → 0 < cover (kept ++ r.heap.gaps) k
-      → 0 < cover ((taken ++ q.heap.gaps) ++ grown_range q.heap r.heap ∷ ranges) k)
+    → 0 < cover ((taken ++ q.heap.gaps) ++ grown_range q.heap r.heap ∷ ranges) k)
     → IsMidEdit ranges p old after r kept c
 
 -- the heap takes a range

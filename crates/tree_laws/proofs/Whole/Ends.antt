@@ -13,8 +13,8 @@ nothing_behind (x ∷ xs) = ap (λ ys. x ∷ ys) (nothing_behind xs)
 pub mid_ends : MidEnds
 mid_ends limit writable edit tree after p q ranges old new l made placed u own keeps =
     let left = rest_is_left limit tree p q ((edit, after) ∷ []) ranges old new l u.grows u.changes
-        (subst (λ xs. AreSpared ranges xs tree ((edit, after) ∷ []) p q) (sym (nothing_behind (touched_extents tree p edit))) own)
-        (subst (λ xs. KeepsPlaces xs tree.wide p q) (sym (nothing_behind (touched_extents tree p edit))) keeps) in record {
+    (subst (λ xs. AreSpared ranges xs tree ((edit, after) ∷ []) p q) (sym (nothing_behind (touched_extents tree p edit))) own)
+    (subst (λ xs. KeepsPlaces xs tree.wide p q) (sym (nothing_behind (touched_extents tree p edit))) keeps) in record {
       made = made;
       placed = placed;
       laid_out = to_layout new after q u.holds;

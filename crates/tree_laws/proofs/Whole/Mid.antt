@@ -39,9 +39,9 @@ room_grows ranges x y z one two k =
     let a = cover-append x.gaps (grown_range x z ∷ ranges) k in
     let b = cover-append x.gaps (grown_range x y ∷ ranges) k in
     let row : in_range (x.end + 1) (z.end - x.end) k ≡ in_range (x.end + 1) (y.end - x.end) k + in_range (y.end + 1) (z.end - y.end) k =
-        ap (λ n. in_range (x.end + 1) n k) (omega (arith, one, two))
-        ∙ join_range (x.end + 1) (y.end - x.end) (z.end - y.end) k
-        ∙ ap (λ n. in_range (x.end + 1) (y.end - x.end) k + in_range n (z.end - y.end) k) (omega (arith, one)) in
+    ap (λ n. in_range (x.end + 1) n k) (omega (arith, one, two))
+    ∙ join_range (x.end + 1) (y.end - x.end) (z.end - y.end) k
+    ∙ ap (λ n. in_range (x.end + 1) (y.end - x.end) k + in_range n (z.end - y.end) k) (omega (arith, one)) in
     omega (arith, a, b, row)
 
 ranges_in_room : (ranges : List Extent) (x y : Heap) (k : ℕ) → cover ranges k ≤ cover (room ranges x y) k
