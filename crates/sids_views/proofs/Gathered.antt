@@ -1,6 +1,10 @@
 -- Questions one after another, and what a pass over a list gathers.
-use Rattle.std.proofs.Common.{◌≡◌, ◌≢◌, ◌∙◌, sym, ap, arith, ℕ, zero, suc, ◌+◌, ◌<◌, ◌≤◌, List, [], ◌∷◌, ◌++◌, length, map, take}
-use Rattle.std.specs.Prelude.{Some, None, is_some, Err, slice_index_or}
+use Rattle.std.proofs.Common.{◌≡◌, ◌≢◌, ◌∙◌, sym, ap, arith, ℕ, zero, suc, ◌+◌, ◌<◌, ◌≤◌, List, [], ◌∷◌, ◌++◌}
+use Rattle.std.specs.Prelude.{Option, Some, None, is_some, Err, filter_map}
+use Rattle.std.specs.Option.{option_to_list}
+use Rattle.std.specs.List.{cons_option}
+use Rattle.std.proofs.lemmas.List.{append-nil}
+use Rattle.std.proofs.lemmas.List.Elements.{filter_map-append}
 use Rattle.adf_model.specs.declared.error.AdfError.{AdfError}
 use Rattle.adf_model.specs.declared.error.AdfError.TheVariants.{ReadFault}
 use Rattle.adf_model.specs.Slots.{Files, Devices, IsTold, slot_at, is_gone, is_open}
@@ -40,14 +44,7 @@ pub told_after : (one two : Files) (a b : Devices) → OnlyAsks one a b two → 
 told_after one two a b only told n h =
     ap is_some (only.devices_stay.others n (λ e. not_None n e)).held ∙ told n (ap (λ (fs : Files). is_gone (slot_at fs n)) (sym only.files_stay) ∙ h)
 
-map_more : {X Y : Type 0} (f : X → Y) (xs : List X) (k : ℕ) (x : X) → k < length xs → slice_index_or xs k x ≡ x → map f (take (suc k) xs) ≡ map f (take k xs) ++ f x ∷ []
-map_more f [] k x lt e = absurd (omega arith)
-map_more f (y ∷ xs) zero x lt e = ap (λ z. f z ∷ []) e
-map_more f (y ∷ xs) (suc k) x lt e = ap (λ zs. f y ∷ zs) (map_more f xs k x (omega arith) e)
-
--- one more of a list that is mapped
-pub mapped_more : {X Y : Type 0} (f : X → Y) (xs : List X) (k : ℕ) (x : X) (ys zs : List Y) (y : Y) → k < length xs → slice_index_or xs k x ≡ x → ys ≡ map f (take k xs) → zs ≡ ys ++ y ∷ [] → y ≡ f x
-    → zs ≡ map f (take (k + 1) xs)
-mapped_more f xs k x ys zs y lt e sofar more is =
-    let next : k + 1 ≡ suc k = omega arith in
-    more ∙ ap (λ l. l ++ y ∷ []) sofar ∙ ap (λ z. map f (take k xs) ++ z ∷ []) is ∙ sym (map_more f xs k x lt e) ∙ ap (λ n. map f (take n xs)) (sym next)
+-- what one more item gives of a list
+pub gathered_more : {X Y : Type 0} (f : X → Option Y) (xs : List X) (x : X) (ys : List Y) (o : Option Y) → ys ≡ filter_map f xs → o ≡ f x → ys ++ option_to_list o ≡ filter_map f (xs ++ x ∷ [])
+gathered_more f xs x ys None sofar is = append-nil ys ∙ sofar ∙ sym (append-nil (filter_map f xs)) ∙ ap (λ o. filter_map f xs ++ cons_option o []) is ∙ sym (filter_map-append f xs (x ∷ []))
+gathered_more f xs x ys (Some y) sofar is = ap (λ zs. zs ++ y ∷ []) sofar ∙ ap (λ o. filter_map f xs ++ cons_option o []) is ∙ sym (filter_map-append f xs (x ∷ []))

@@ -5,3 +5,4 @@ pub mod Data
 pub mod Plain
 pub mod Gathered
 pub mod Causes
+pub mod Entries

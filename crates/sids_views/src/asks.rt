@@ -1,6 +1,8 @@
 //! One question about a node.
 
-ghost use Rattle.std.specs.Prelude.{◌≡◌, ◌≤◌, is_some, true, unwrap_or, option_map, [], IfOk, IfSome};
+ghost use Rattle.std.specs.Prelude.{◌≡◌, ◌≤◌, is_some, true, unwrap_or, option_map, length};
+ghost use Rattle.std.specs.Prelude.{[], IfOk, IfSome};
+ghost use Rattle.std.specs.List.{AllByRecursion};
 ghost use Rattle.adf_model.specs.Edits.{size_of, size_limit};
 ghost use Rattle.adf_model.specs.Slots.{IsTold, AreTrees};
 ghost use Rattle.adf_model.specs.Causes.{OnlyAsks};
@@ -8,6 +10,7 @@ ghost use Rattle.sids_views.specs.Asks.{IsValueOr, HasAskCause, IsThere, IsPlain
 ghost use Rattle.adf_model.specs.Answers.{shape_of, IsReplyTo};
 ghost use Rattle.adf_model.specs.Steps.{IsAnswer};
 ghost use Rattle.sids_views.specs.Views.{node_there, target_of, kind_there, format_there, entries_there};
+ghost use Rattle.sids_views.specs.Nodes.{view_of};
 
 use crate::replies::{as_bytes, as_children, as_format, as_presence, as_shape, as_target};
 use adf_model::{
@@ -109,6 +112,8 @@ pub fn entries_of<C: TreeCalls>(calls: &mut C, at: NodeId) -> Result<Children, A
         (C.devices calls.new) (C.files calls.new) }
     ensures value { IsTold (C.files calls.old) (C.devices calls.old)
         → IsValueOr (entries_there (C.files calls.old) at) result }
+    ensures there { IsTold (C.files calls.old) (C.devices calls.old)
+        → IfOk result (AllByRecursion (λ entry. IsThere (C.files calls.old) entry.node)) }
     ensures cause { HasAskCause (C.files calls.old) (C.devices calls.old)
         (C.devices calls.new) result }
 {
@@ -177,6 +182,8 @@ pub fn data_of<C: TreeCalls>(calls: &mut C, at: NodeId) -> Result<Text, AdfError
         (C.devices calls.new) (C.files calls.new) }
     ensures value { IsTold (C.files calls.old) (C.devices calls.old)
         → IsValueOr (unwrap_or (node_there (C.files calls.old) at).bytes []) result }
+    ensures size { IsTold (C.files calls.old) (C.devices calls.old)
+        → IfOk result (λ bytes. length bytes ≡ size_of (node_there (C.files calls.old) at)) }
     ensures cause { HasAskCause (C.files calls.old) (C.devices calls.old)
         (C.devices calls.new) result }
 {
@@ -218,6 +225,35 @@ pub fn seen_kind<C: TreeCalls>(calls: &mut C, node: NodeId) -> Result<Option<Lab
             Err(error) => Err(error),
         },
         Ok(None) => Ok(None),
+        Err(error) => Err(error),
+    }
+}
+
+/// The type and the dimensions of a node, and whether it has data.
+#[derive(Clone, Copy, Debug, PartialEq, Eq, Drop)]
+pub struct NodeView {
+    pub shape: Shape,
+    pub has_data: bool,
+}
+
+/// The view of a node that is no link. No data are read for it.
+pub fn view_of<C: TreeCalls>(calls: &mut C, at: NodeId) -> Result<NodeView, AdfError>
+    requires ready { C.is_ready calls.old }
+    requires plain { IsTold (C.files calls.old) (C.devices calls.old)
+        → IsPlain (C.files calls.old) at }
+    ensures ready { C.is_ready calls.new }
+    ensures only { OnlyAsks (C.files calls.old) (C.devices calls.old)
+        (C.devices calls.new) (C.files calls.new) }
+    ensures value { IsTold (C.files calls.old) (C.devices calls.old)
+        → IsValueOr (view_of (node_there (C.files calls.old) at)) result }
+    ensures cause { HasAskCause (C.files calls.old) (C.devices calls.old)
+        (C.devices calls.new) result }
+{
+    match shape_of_node(calls, at) {
+        Ok(shape) => match has_data(calls, at) {
+            Ok(has_data) => Ok(NodeView { shape, has_data }),
+            Err(error) => Err(error),
+        },
         Err(error) => Err(error),
     }
 }
