@@ -230,7 +230,7 @@ pub fn seen_kind<C: TreeCalls>(calls: &mut C, node: NodeId) -> Result<Option<Lab
 }
 
 /// The type and the dimensions of a node, and whether it has data.
-#[derive(Clone, Copy, Debug, PartialEq, Eq, Drop)]
+#[derive(Clone, Copy, PartialEq, Eq, Drop)]
 pub struct NodeView {
     pub shape: Shape,
     pub has_data: bool,
