@@ -2,3 +2,10 @@
 pub mod Mid
 pub mod Rest
 pub mod Ends
+pub mod Spares
+pub mod Texts
+pub mod Joins
+pub mod Creates
+pub mod CreatesFull
+pub mod Deletes
+pub mod Moves

@@ -33,3 +33,4 @@ pub mod Erasing
 pub mod Reading
 pub mod MidEdit
 pub mod Spared
+pub mod WholeEdits

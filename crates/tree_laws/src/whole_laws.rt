@@ -2,6 +2,7 @@
 
 ghost use Rattle.tree_laws.specs.MidEdit.{MidBegins, MidGives, MidGoesOn, MidSwitches, MidTakes, MidWrites};
 ghost use Rattle.tree_laws.specs.Spared.{MidEnds, RestIsLeft};
+ghost use Rattle.tree_laws.specs.WholeEdits.{CreateIsWhole, CreateIsWholeFull, DeleteIsWhole, LabelIsWhole, MoveIsWhole, MoveLastIsWhole, RenameIsWhole};
 
 /// The steps of an edit on its way: from a layout on, takes of the heap, writes into what was taken, nodes that change, and
 /// gifts. All that is written lies in the heap's fields, in the gaps that the edit found, behind the end and in its own ranges.
@@ -19,4 +20,28 @@ pub fn edits_on_their_way()
 pub fn edits_end()
     ensures rest { RestIsLeft }
     ensures done { MidEnds }
+{}
+
+/// Labels and names, whole: what is written makes the edit, and leaves the rest.
+pub fn texts_are_whole()
+    ensures label { LabelIsWhole }
+    ensures name { RenameIsWhole }
+{}
+
+/// A node that is created, whole: with an unused entry of its parent's table, or with a longer table.
+pub fn creations_are_whole()
+    ensures entry { CreateIsWhole }
+    ensures full { CreateIsWholeFull }
+{}
+
+/// A node that is deleted with all below it, whole: from the entries that move up to the last gift.
+pub fn deletions_are_whole()
+    ensures { DeleteIsWhole }
+{}
+
+/// A node that is moved, whole, where the table of its new parent has an unused entry: to another parent, or to the end of
+/// its own list.
+pub fn moves_are_whole()
+    ensures over { MoveIsWhole }
+    ensures last { MoveLastIsWhole }
 {}

@@ -108,7 +108,7 @@ module _ (old new : List ℕ) (tree : Tree) (p : Placement) (taken : List Extent
 few_dims_of : (wide : Bool) (node : Node) → IsNode wide node → length node.dims ≤ 12
 few_dims_of wide node is = le_true (length node.dims) 12 (and_parts _ _ (and_parts _ _ is.shaped).0).1
 
-short_label : (label : List ℕ) → is_label label ≡ true → length label ≤ 32
+pub short_label : (label : List ℕ) → is_label label ≡ true → length label ≤ 32
 short_label label e = le_true (length label) 32 (and_parts _ _ (and_parts _ _ (and_parts _ _ e).0).0).0
 
 pub label_is_done : LabelIsDone

@@ -145,10 +145,10 @@ erased_get k gone [] j = none_either (gone (k + j))
 erased_get k gone (x ∷ xs) zero = ap (λ i. if gone i then None else x) (omega arith)
 erased_get k gone (x ∷ xs) (suc j) = erased_get (suc k) gone xs j ∙ ap (λ i. if gone i then None else get_or xs j None) (omega arith)
 
-erased_at : (gone : ℕ → Bool) (xs : List (Option NodeParts)) (j : ℕ) → get_or (erased_from 0 gone xs) j None ≡ (if gone j then None else get_or xs j None)
+pub erased_at : (gone : ℕ → Bool) (xs : List (Option NodeParts)) (j : ℕ) → get_or (erased_from 0 gone xs) j None ≡ (if gone j then None else get_or xs j None)
 erased_at gone xs j = erased_get 0 gone xs j ∙ ap (λ i. if gone i then None else get_or xs j None) (omega arith)
 
-erased_was : (gone : ℕ → Bool) (xs : List (Option NodeParts)) (j : ℕ) (a : NodeParts) → get_or (erased_from 0 gone xs) j None ≡ Some a → get_or xs j None ≡ Some a
+pub erased_was : (gone : ℕ → Bool) (xs : List (Option NodeParts)) (j : ℕ) (a : NodeParts) → get_or (erased_from 0 gone xs) j None ≡ Some a → get_or xs j None ≡ Some a
 erased_was gone xs j a e = by_gone (gone j) (sym (erased_at gone xs j) ∙ e)
   where
     by_gone : (b : Bool) → (if b then None else get_or xs j None) ≡ Some a → get_or xs j None ≡ Some a
@@ -182,7 +182,7 @@ among_live k test (Some node ∷ nodes) (suc q) live t =
     either true h = or_right (k == k + suc q) (is_among (live_from (suc k) test nodes) (k + suc q)) h
     either false h = h
 
-contains_flat : (f : ℕ → List Extent) (xs : List ℕ) (k : ℕ) (e : Extent) → IsAmong xs k → Contains (f k) e → Contains (flat_map f xs) e
+pub contains_flat : (f : ℕ → List Extent) (xs : List ℕ) (k : ℕ) (e : Extent) → IsAmong xs k → Contains (f k) e → Contains (flat_map f xs) e
 contains_flat f [] k e h c = absurd (not_true h)
 contains_flat f (x ∷ xs) k e h c = elim (eqb_tells x k) [
   | inl t ↦ Contains-append_left (f x) (flat_map f xs) e (subst (λ j. Contains (f j) e) (sym t.1) c)
@@ -198,7 +198,7 @@ some_at [] k = refl
 some_at (x ∷ xs) zero = refl
 some_at (x ∷ xs) (suc k) = some_at xs k
 
-live_too : (tree : Tree) (p : Placement) (s : ℕ) (from : NodeParts) → map is_some p.parts ≡ map is_some tree.nodes → parts_of p s ≡ Some from → is_live tree s ≡ true
+pub live_too : (tree : Tree) (p : Placement) (s : ℕ) (from : NodeParts) → map is_some p.parts ≡ map is_some tree.nodes → parts_of p s ≡ Some from → is_live tree s ≡ true
 live_too tree p s from same e = sym (some_at tree.nodes s) ∙ ap (λ xs. get_or xs s false) (sym same) ∙ some_at p.parts s ∙ ap is_some e
 
 some_node : (o : Option Node) → is_some o ≡ true → (node : Node) × (o ≡ Some node)
@@ -216,7 +216,7 @@ module _ (old middle new : List ℕ) (tree after : Tree) (p : Placement) (taken 
   abbrev except : List Extent
   except = list_of tree.wide p par ++ flat_map (λ serial. extents_of tree.wide (parts_of p serial)) (subtree tree node.serial)
 
-  room : length (children_at tree par) ≤ t.entries
+  pub room : length (children_at tree par) ≤ t.entries
   room = by_node (some_node (node_at tree par) (live_too tree p par at h.same_nodes placed))
     where
       by_node : (n : Node) × (node_at tree par ≡ Some n) → length (children_at tree par) ≤ t.entries
@@ -233,7 +233,7 @@ module _ (old middle new : List ℕ) (tree after : Tree) (p : Placement) (taken 
       let le = room in let l = short in
       counts_and_table at.header (t.place + 16 + 44 * i) (length text) at.table t b has (omega arith) (omega (arith, lt, le, l))
 
-  stays : (k : ℕ) (ms : NodeParts) (x : Extent) → parts_of p k ≡ Some ms → Contains (node_extents tree.wide ms) x → (Contains except x → ⊥) → Contains (live_extents tree.wide (plan_deleted after p).placed) x
+  pub stays : (k : ℕ) (ms : NodeParts) (x : Extent) → parts_of p k ≡ Some ms → Contains (node_extents tree.wide ms) x → (Contains except x → ⊥) → Contains (live_extents tree.wide (plan_deleted after p).placed) x
   stays k ms x there own free = by_within (is_within tree node.serial k) refl
     where
       live : is_live tree k ≡ true

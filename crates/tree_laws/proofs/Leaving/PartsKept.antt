@@ -17,7 +17,7 @@ use Rattle.tree_laws.specs.Parting.{SameParts, NewParts, TableParts, ErasedParts
 use Rattle.tree_laws.proofs.Leaving.LeavingLaws.{node_of, of_node}
 use Rattle.tree_laws.proofs.Edits.LabelSet.{set_here, set_there}
 
-same_header : (o : Option NodeParts) (from to : NodeParts) → o ≡ Some from → o ≡ Some to → to.header ≡ from.header
+pub same_header : (o : Option NodeParts) (from to : NodeParts) → o ≡ Some from → o ≡ Some to → to.header ≡ from.header
 same_header o from to e f = ap (λ (parts : NodeParts). parts.header) (same_Some to from (sym f ∙ e))
 
 pub same_parts : SameParts
@@ -30,12 +30,12 @@ same_parts wide p heap = record {
 
 -- ---- a new node
 
-front_of : {A : Type 0} (xs : List A) (y d : A) (k : ℕ) → k < length xs → get_or (xs ++ y ∷ []) k d ≡ get_or xs k d
+pub front_of : {A : Type 0} (xs : List A) (y d : A) (k : ℕ) → k < length xs → get_or (xs ++ y ∷ []) k d ≡ get_or xs k d
 front_of [] y d k lt = absurd (omega (arith, lt))
 front_of (x ∷ xs) y d zero lt = refl
 front_of (x ∷ xs) y d (suc k) lt = front_of xs y d k (omega (arith, lt))
 
-longer_by : {A : Type 0} (xs : List A) (y : A) → length xs ≤ length (xs ++ y ∷ [])
+pub longer_by : {A : Type 0} (xs : List A) (y : A) → length xs ≤ length (xs ++ y ∷ [])
 longer_by [] y = omega arith
 longer_by (x ∷ xs) y = let r = longer_by xs y in omega (arith, r)
 
