@@ -1,46 +1,16 @@
 //! What sessions print and how they end where a call of a stream fails, and how lines are found.
 
-ghost use Rattle.std.specs.Prelude.{[]};
-ghost use Rattle.adf_model.specs.Slots.{Files, Devices};
+ghost use Rattle.std.specs.Prelude.{IfOk};
+ghost use Rattle.cg_io.specs.Memory.{device_of};
+ghost use Rattle.plain_library.specs.Library.{IsReady};
 
 use crate::fixtures::source_of;
-use adf_model::{AdfError, Edit, EditError, Query, Reply, Serials};
 use call_script::laws as line_laws;
-use cg_io::{MemorySink, MemorySource};
-use session::{Ended, FileCalls, Found, LineReader, Stopped, laws, run_session};
+use cg_io::{MemoryDevice, MemorySink, MemorySource};
+use plain_library::{Library, Shelf};
+use session::{Ended, Found, LineReader, Stopped, laws, run_session};
 use std::alloc::Global;
 use std::test::Fail;
-
-// Files of which there are none.
-#[derive(Drop)]
-struct NoFiles;
-
-impl FileCalls for NoFiles {
-    ghost files = { λ s. [] };
-
-    ghost devices = { λ s. [] };
-
-    ghost is_ready = { λ s. Unit {0} };
-
-    fn open_new(&mut self, _number: u32, _limit: u64) -> Result<(), AdfError> {
-        Err(AdfError::NoSuchFile)
-    }
-
-    fn close(&mut self, _number: u32) -> Result<(), AdfError> {
-        Err(AdfError::NoSuchFile)
-    }
-
-    fn ask(&mut self, _query: &Query) -> Result<Reply, AdfError> {
-        Err(AdfError::NoSuchFile)
-    }
-
-    fn edit(&mut self, _edits: &[Edit]) -> Result<Serials, EditError> {
-        Err(EditError {
-            at: 0,
-            error: AdfError::NoSuchFile,
-        })
-    }
-}
 
 // A session over some lines: the call of the input and that of the output that fails, from 1, how it ends
 // and what it prints.
@@ -118,6 +88,16 @@ static CASES: [Case; 9] = [
     },
 ];
 
+// The files of an empty shelf.
+fn no_files(alloc: Global) -> Result<Library<MemoryDevice>, Fail>
+    ensures { IfOk result (IsReady device_of) }
+{
+    match Library::new(alloc, Shelf::new(alloc)) {
+        Ok(library) => Ok(library),
+        Err((error, _)) => Err(Fail::from(error)),
+    }
+}
+
 fn ends_so(alloc: Global, case: &Case) -> Result<bool, Fail> {
     let mut input = source_of(alloc, case.lines)?;
     if let Some(call) = case.failing_take {
@@ -127,7 +107,7 @@ fn ends_so(alloc: Global, case: &Case) -> Result<bool, Fail> {
     if let Some(call) = case.failing_put {
         output.fail_at(call);
     }
-    let ended = run_session(alloc, &mut NoFiles, &mut input, &mut output);
+    let ended = run_session(alloc, &mut no_files(alloc)?, &mut input, &mut output);
     Ok(ended == case.ended && output.taken() == case.printed)
 }
 
@@ -170,6 +150,7 @@ fn lines_are_found_one_by_one(rt: HostRuntime) -> Result<(), Fail> {
 #[test]
 fn laws_are_calls() {
     laws::faults_bound_replies();
+    laws::sessions_are_steps();
     line_laws::one_call_a_line();
     line_laws::calls_have_lines();
 }
