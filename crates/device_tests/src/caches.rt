@@ -97,12 +97,12 @@ fn run(
     steps: &[Step],
 ) -> Result<Ran, AdfError> {
     let mut cache = cache_of(alloc, device, capacity)?;
-    let mut done = 0;
+    let mut done = 0usize;
     for step in steps {
         if !make(&mut cache, *step) {
             break;
         }
-        done += 1;
+        done = done.saturating_add(1);
     }
     let device = cache.into_device();
     Ok(Ran { done, device })

@@ -45,10 +45,10 @@ fn read(
     place: u64,
     n: usize,
 ) -> Result<Option<Vec<u8>>, AdfError> {
-    if n > 1 << 20 || place > END - n as u64 {
+    let mut into = bytes_of(alloc, 9, n)?;
+    if into.len() > 1 << 20 || place > END - into.len() as u64 {
         return Ok(None);
     }
-    let mut into = bytes_of(alloc, 9, n)?;
     match draft.read(place, &mut into) {
         Ok(()) => Ok(Some(into)),
         Err(_) => Ok(None),
@@ -139,12 +139,12 @@ struct Ran {
 
 fn run(alloc: Global, device: MemoryDevice, steps: &[Step]) -> Result<Ran, AdfError> {
     let mut draft = Draft::new(alloc, Plain { device });
-    let mut done = 0;
+    let mut done = 0usize;
     for step in steps {
         if !make(alloc, &mut draft, *step)? {
             break;
         }
-        done += 1;
+        done = done.saturating_add(1);
     }
     let Plain { device } = draft.into_blocks();
     Ok(Ran { done, device })

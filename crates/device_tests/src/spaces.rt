@@ -1,9 +1,10 @@
 //! Pages over blocks, and fields that are written to a draft and read from it and from pages.
 ghost use Rattle.std.specs.Prelude.{◌≤◌, ◌<◌, ◌+◌, ◌^◌};
+ghost use Rattle.cg_io.specs.Pages.{ArePages};
 
 use crate::plain::{Plain, device_of, three_blocks};
 use block_draft::Draft;
-use cg_io::{MemoryDevice, Pages, ReadBytes, Space, read_bytes, write_bytes};
+use cg_io::{Blocks, MemoryDevice, Pages, ReadBytes, Space, read_bytes, write_bytes};
 use disk_ptr::{DiskPtr, from_place};
 use field_access::{
     has_tag, read_field, read_number, read_pointer, write_field, write_number, write_pointer,
@@ -14,23 +15,24 @@ use std::test::Fail;
 const END: u64 = 1 << 44;
 
 // Whether a span of bytes is read, each of which is this one but for the first and the last.
-fn reads_span(
-    pages: &mut Pages<Plain<MemoryDevice>>,
-    place: u64,
-    edges: [u8; 2],
-    byte: u8,
-) -> bool {
+fn reads_span<R: ReadBytes>(bytes: &mut R, place: u64, edges: [u8; 2], byte: u8) -> bool
+    requires sound { R.is_sound bytes.old }
+    ensures { R.is_sound bytes.new }
+{
     if place > END - 5000 {
         return false;
     }
     let mut into = [9u8; 5000];
-    if pages.read(place, &mut into).is_err() {
+    if bytes.read(place, &mut into).is_err() {
         return false;
     }
     into[0] == edges[0] && into[4999] == edges[1] && into[1..4999] == [byte; 4998]
 }
 
-fn is_long(pages: &mut Pages<Plain<MemoryDevice>>, length: u64) -> bool {
+fn is_long<B: Blocks>(pages: &mut Pages<B>, length: u64) -> bool
+    requires sound { ArePages B.is_sound B.state pages.old }
+    ensures { ArePages B.is_sound B.state pages.new }
+{
     match pages.length() {
         Ok(n) => n == length,
         Err(_) => false,

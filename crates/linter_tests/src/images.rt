@@ -95,10 +95,10 @@ impl Image {
     }
 
     // Writes twelve dimensions, of so many digits each, and no data.
-    fn put_no_data(&mut self, place: u32, digits: usize) {
+    fn put_no_data(&mut self, place: u32, digits: u8) {
         let at = place as usize;
         for k in 0..12 {
-            self.put(at + 130 + digits * k, b"0000000000000000");
+            self.put(at + 130 + usize::from(digits) * k, b"0000000000000000");
         }
         if digits == 8 {
             self.put(at + 226, b"0000000000001000TaiL");

@@ -187,16 +187,46 @@ fn goes_on(alloc: Global, first: Row, second: Row) -> bool {
         && output.taken().len() == length + second.lines.len()
 }
 
+const LINT_CUT: Row = Row {
+    length: 511,
+    report: Report::Broken,
+    lines: b"L08 146\n",
+    ..LINT_FRESH
+};
+
+const LINT_FAILING: Row = Row {
+    failing: (1, 0),
+    report: Report::DeviceFault,
+    lines: b"E02 ReadFault\n",
+    ..LINT_FRESH
+};
+
+// Two reports, one after the other. A failed read is no fault of the file: what is asked again is answered.
+const PAIRS: [(Row, Row); 4] = [
+    (LINT_FRESH, MAP_FRESH),
+    (
+        LINT_CUT,
+        Row {
+            call: Call::Map,
+            ..LINT_CUT
+        },
+    ),
+    (LINT_FAILING, MAP_FRESH),
+    (
+        LINT_FAILING,
+        Row {
+            call: Call::Map,
+            failing: (2, 0),
+            ..LINT_FAILING
+        },
+    ),
+];
+
 #[test]
 fn a_report_leaves_its_device(rt: HostRuntime) -> Result<(), Fail> {
-    assert!(rt; goes_on(rt.alloc(), ROWS[0], ROWS[1]));
-    assert!(rt; goes_on(rt.alloc(), ROWS[2], ROWS[3]));
-    // A failed read is no fault of the file: what is asked again is answered.
-    assert!(rt; goes_on(rt.alloc(), ROWS[4], ROWS[1]));
-    let failing = Row {
-        failing: (2, 0),
-        ..ROWS[5]
-    };
-    assert!(rt; goes_on(rt.alloc(), ROWS[4], failing));
+    for k in 0..PAIRS.len() {
+        let (first, second) = PAIRS[k];
+        assert!(rt; goes_on(rt.alloc(), first, second), "pair {k}");
+    }
     Ok(())
 }
