@@ -62,14 +62,14 @@ CreateIsWhole =
     → LaysOut old tree p → file_step writable tree (Edit.Create at name label) ≡ Ok after
     → heap_take limit (node_length tree.wide) p.heap ≡ Ok (header, heap) → header < 2 ^ 44
     → IsMidEdit (entry_ranges from t (length (children_at tree at.serial))) p old tree (record p { heap = heap })
-        (extent kind header (node_length tree.wide) ∷ []) a
+    (extent kind header (node_length tree.wide) ∷ []) a
     → field a header (node_length tree.wide) ≡ node_text (empty_node tree.wide name label)
     → parts_of p at.serial ≡ Some from → from.table ≡ Some t → length (children_at tree at.serial) < t.entries
     → Puts ExtentKind.SubNodes (t.place + 16 + 44 * length (children_at tree at.serial)) 44
-        (entry_text (text_field 32 name) (To header)) a middle
+    (entry_text (text_field 32 name) (To header)) a middle
     → Puts ExtentKind.Node (from.header + 68) 8 (hex_text 8 (suc (length (children_at tree at.serial)))) middle new
     → IsEditWhole limit writable (Edit.Create at name label) tree p after
-        (with_new_parts (record p { heap = heap }) header) old new
+    (with_new_parts (record p { heap = heap }) header) old new
 
 -- the parts of a parent with a longer table
 abbrev pub with_longer_table : NodeParts → ℕ → ℕ → NodeParts
@@ -87,19 +87,22 @@ CreateIsWholeFull =
     → heap_take limit (node_length tree.wide) p.heap ≡ Ok (header, between) → header < 2 ^ 44
     → heap_take limit (table_length entries) between ≡ Ok (table, heap) → table + table_length entries ≤ 2 ^ 44
     → IsMidEdit (longer_ranges from) p old tree (record p { heap = heap })
-        (extent other table (table_length entries) ∷ extent kind header (node_length tree.wide) ∷ []) a
+    (extent other table (table_length entries) ∷ extent kind header (node_length tree.wide) ∷ []) a
     → field a header (node_length tree.wide) ≡ node_text (empty_node tree.wide name label)
     → parts_of p at.serial ≡ Some from
     → field a table (table_length entries)
-        ≡ framed_text SubNodes table (used_entries a from.table (length (children_at tree at.serial))
-            ++ entry_text (text_field 32 name) (To header)
-            ++ unused_entries (entries - suc (length (children_at tree at.serial))))
+    ≡ framed_text SubNodes table (used_entries a from.table (length (children_at tree at.serial))
+    ++ entry_text (text_field 32 name) (To header)
+    ++ unused_entries (entries - suc (length (children_at tree at.serial))))
     → Puts ExtentKind.Node (from.header + 68) 28
-        (hex_text 8 (suc (length (children_at tree at.serial))) ++ hex_text 8 entries ++ pointer_text (To table)) a middle
+    (hex_text 8 (suc (length (children_at tree at.serial))) ++ hex_text 8 entries ++ pointer_text (To table)) a middle
     → GivesAll (table_extents from.table) heap middle new
     → IsEditWhole limit writable (Edit.Create at name label) tree p after
-        (after_gives (with_new_parts (record { parts = slice_set p.parts at.serial
-            (Some (with_longer_table from table entries)); heap = heap }) header) (table_extents from.table)) old new
+    (after_gives (with_new_parts (record {
+      parts = slice_set p.parts at.serial
+          (Some (with_longer_table from table entries));
+      heap = heap;
+    }) header) (table_extents from.table)) old new
 
 -- ---- a node and all below it are deleted
 
@@ -116,11 +119,11 @@ DeleteIsWhole =
     → parent_of tree node.serial ≡ Some parent → slice_get (children_at tree parent) i ≡ Some node.serial
     → parts_of p parent ≡ Some at → at.table ≡ Some t
     → Puts ExtentKind.SubNodes (t.place + 16 + 44 * i) (44 * (length (children_at tree parent) - suc i))
-        (field old (t.place + 16 + 44 * (i + 1)) (44 * (length (children_at tree parent) - suc i))) old a
+    (field old (t.place + 16 + 44 * (i + 1)) (44 * (length (children_at tree parent) - suc i))) old a
     → Puts ExtentKind.Node (at.header + 68) 8 (hex_text 8 (length (children_at tree parent) - 1)) a middle
     → GivesAll (plan_deleted after p).given p.heap middle new
     → IsEditWhole limit writable (Edit.Delete node) tree p after
-        (after_gives (plan_deleted after p).placed (plan_deleted after p).given) old new
+    (after_gives (plan_deleted after p).placed (plan_deleted after p).given) old new
 
 -- ---- a node moves
 
@@ -135,10 +138,10 @@ MoveIsWhole =
     → parts_of p parent ≡ Some from → from.table ≡ Some t → parts_of p node.serial ≡ Some its
     → parts_of p to.serial ≡ Some other → other.table ≡ Some u → length (children_at tree to.serial) < u.entries
     → Puts ExtentKind.SubNodes (t.place + 16 + 44 * i) (44 * (length (children_at tree parent) - suc i))
-        (field old (t.place + 16 + 44 * (i + 1)) (44 * (length (children_at tree parent) - suc i))) old a
+    (field old (t.place + 16 + 44 * (i + 1)) (44 * (length (children_at tree parent) - suc i))) old a
     → Puts ExtentKind.Node (from.header + 68) 8 (hex_text 8 (length (children_at tree parent) - 1)) a b
     → Puts ExtentKind.SubNodes (u.place + 16 + 44 * length (children_at tree to.serial)) 44
-        (entry_text (text_field 32 (name_at tree node.serial)) (To its.header)) b c
+    (entry_text (text_field 32 (name_at tree node.serial)) (To its.header)) b c
     → Puts ExtentKind.Node (other.header + 68) 8 (hex_text 8 (suc (length (children_at tree to.serial)))) c new
     → IsEditWhole limit writable (Edit.Move node to) tree p after p old new
 
@@ -153,8 +156,8 @@ MoveLastIsWhole =
     → parts_of p to.serial ≡ Some from → parts_of p node.serial ≡ Some its → from.table ≡ Some t
     → length (children_at tree to.serial) < t.entries
     → Puts ExtentKind.SubNodes (t.place + 16 + 44 * i) (44 * (length (children_at tree to.serial) - i))
-        (field old (t.place + 16 + 44 * (i + 1)) (44 * (length (children_at tree to.serial) - suc i))
-            ++ entry_text (text_field 32 (name_at tree node.serial)) (To its.header)) old new
+    (field old (t.place + 16 + 44 * (i + 1)) (44 * (length (children_at tree to.serial) - suc i))
+    ++ entry_text (text_field 32 (name_at tree node.serial)) (To its.header)) old new
     → IsEditWhole limit writable (Edit.Move node to) tree p after p old new
 
 -- the same two where the table of the new parent was full, and a longer one, which the heap gave room for, replaced it first
@@ -170,21 +173,21 @@ MoveIsWholeFull =
     → parts_of p to.serial ≡ Some other → entry_count other.table ≡ length (children_at tree to.serial)
     → heap_take limit (table_length (grown_entries (length (children_at tree to.serial)))) p.heap ≡ Ok (table, heap)
     → IsMidEdit (closing_ranges from t (length (children_at tree parent)) i ++ longer_ranges other) p old tree
-        (record p { heap = heap })
-        (extent kind table (table_length (grown_entries (length (children_at tree to.serial)))) ∷ []) start
+    (record p { heap = heap })
+    (extent kind table (table_length (grown_entries (length (children_at tree to.serial)))) ∷ []) start
     → IsReplaced start grown other (length (children_at tree to.serial)) table
-        (grown_entries (length (children_at tree to.serial)))
+    (grown_entries (length (children_at tree to.serial)))
     → ChangesOnly (extent ExtentKind.Node (other.header + 68) 28 ∷ []) start grown
     → Puts ExtentKind.SubNodes (t.place + 16 + 44 * i) (44 * (length (children_at tree parent) - suc i))
-        (field grown (t.place + 16 + 44 * (i + 1)) (44 * (length (children_at tree parent) - suc i))) grown a
+    (field grown (t.place + 16 + 44 * (i + 1)) (44 * (length (children_at tree parent) - suc i))) grown a
     → Puts ExtentKind.Node (from.header + 68) 8 (hex_text 8 (length (children_at tree parent) - 1)) a b
     → Puts ExtentKind.SubNodes (table + 16 + 44 * length (children_at tree to.serial)) 44
-        (entry_text (text_field 32 (name_at tree node.serial)) (To its.header)) b c
+    (entry_text (text_field 32 (name_at tree node.serial)) (To its.header)) b c
     → Puts ExtentKind.Node (other.header + 68) 8 (hex_text 8 (suc (length (children_at tree to.serial)))) c middle
     → GivesAll (table_extents other.table) heap middle new
     → IsEditWhole limit writable (Edit.Move node to) tree p after
-        (after_gives (with_longer (record p { heap = heap }) to.serial other table
-            (grown_entries (length (children_at tree to.serial)))) (table_extents other.table)) old new
+    (after_gives (with_longer (record p { heap = heap }) to.serial other table
+    (grown_entries (length (children_at tree to.serial)))) (table_extents other.table)) old new
 
 abbrev pub MoveLastIsWholeFull : Type 0
 MoveLastIsWholeFull =
@@ -197,14 +200,14 @@ MoveLastIsWholeFull =
     → entry_count from.table ≡ length (children_at tree to.serial)
     → heap_take limit (table_length (grown_entries (length (children_at tree to.serial)))) p.heap ≡ Ok (table, heap)
     → IsMidEdit (longer_ranges from) p old tree (record p { heap = heap })
-        (extent kind table (table_length (grown_entries (length (children_at tree to.serial)))) ∷ []) start
+    (extent kind table (table_length (grown_entries (length (children_at tree to.serial)))) ∷ []) start
     → IsReplaced start grown from (length (children_at tree to.serial)) table
-        (grown_entries (length (children_at tree to.serial)))
+    (grown_entries (length (children_at tree to.serial)))
     → ChangesOnly (extent ExtentKind.Node (from.header + 68) 28 ∷ []) start grown
     → Puts ExtentKind.SubNodes (table + 16 + 44 * i) (44 * (length (children_at tree to.serial) - i))
-        (field grown (table + 16 + 44 * (i + 1)) (44 * (length (children_at tree to.serial) - suc i))
-            ++ entry_text (text_field 32 (name_at tree node.serial)) (To its.header)) grown middle
+    (field grown (table + 16 + 44 * (i + 1)) (44 * (length (children_at tree to.serial) - suc i))
+    ++ entry_text (text_field 32 (name_at tree node.serial)) (To its.header)) grown middle
     → GivesAll (table_extents from.table) heap middle new
     → IsEditWhole limit writable (Edit.Move node to) tree p after
-        (after_gives (with_longer (record p { heap = heap }) to.serial from table
-            (grown_entries (length (children_at tree to.serial)))) (table_extents from.table)) old new
+    (after_gives (with_longer (record p { heap = heap }) to.serial from table
+    (grown_entries (length (children_at tree to.serial)))) (table_extents from.table)) old new

@@ -69,8 +69,8 @@ label_is_whole limit writable old new tree after p node label its l made stands 
     let is : IsTree after = apply_keeps tree after (Edit.SetLabel node label) l.is_tree step.0 step.1 in
     let now : with_node tree node.serial (record at.0 { label = label }) ≡ after = same_Ok all.1 in
     let held : Holds new after p [] =
-        subst (λ (t : Tree). Holds new t p []) now
-        (label_set old new tree p [] node.serial at.0 its label (from_layout old tree p l) at.1 stands (short_label label (not_false _ all.0.0)) (few_dims tree node.serial at.0 l.is_tree at.1) w.writes (subst IsTree (sym now) is)) in
+    subst (λ (t : Tree). Holds new t p []) now
+    (label_set old new tree p [] node.serial at.0 its label (from_layout old tree p l) at.1 stands (short_label label (not_false _ all.0.0)) (few_dims tree node.serial at.0 l.is_tree at.1) w.writes (subst IsTree (sym now) is)) in
     let ranges : List Extent = extent ExtentKind.Node (its.header + 36) 32 ∷ [] in
     let begun : IsMidEdit ranges p old tree p [] old = mid_begins ranges tree p old l in
     let ended : IsMidEdit ranges p old after p [] new = mid_switches ranges p old tree after p p [] [] ranges old new begun held refl w.only (λ k some. some) (λ k some. absurd (omega (arith, some))) in
@@ -114,7 +114,6 @@ module _ (limit : ℕ) (writable : Bool) (old middle new : List ℕ) (tree after
   table : HasTable old tree p over.0 (Some t)
   table = subst (λ (o : Option TablePart). HasTable old tree p over.0 o) has (h.nodes parent over.0 at over.1 at_at).table
 
-
   count : i < length (children_at tree parent)
   count = slice_get_within (children_at tree parent) i node.serial listed
 
@@ -157,7 +156,7 @@ module _ (limit : ℕ) (writable : Bool) (old middle new : List ℕ) (tree after
       let short : length name ≤ 32 = name_short (with_node tree node.serial (record here.0 { name = name })) node.serial (record here.0 { name = name }) sound (set_here tree.nodes node.serial (Some (record here.0 { name = name })) None (there_inside tree.nodes node.serial here.0 here.1)) in
       let near = entry_near (field old t.place (table_length t.entries)) i here.0.name its.header (table.3 i node.serial here.0 its in_list here.1 its_at) in
       let held : Holds new after p [] = subst (λ (r : Tree). Holds new r p []) now
-          (name_changed old middle new tree p [] node.serial parent i here.0 over.0 its at t name h here.1 its_at over.1 at_at has in_list differ short (few_dims tree node.serial here.0 h.is_tree here.1) near v.writes w.writes sound) in
+      (name_changed old middle new tree p [] node.serial parent i here.0 over.0 its at t name h here.1 its_at over.1 at_at has in_list differ short (few_dims tree node.serial here.0 h.is_tree here.1) near v.writes w.writes sound) in
       mid_ends limit writable the_edit tree after p p ranges old new l made refl (joined (mid_begins ranges tree p old l) held) spared (same_places touched tree.wide p)
 
 pub rename_is_whole : RenameIsWhole
