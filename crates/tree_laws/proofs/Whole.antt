@@ -9,3 +9,6 @@ pub mod Creates
 pub mod CreatesFull
 pub mod Deletes
 pub mod Moves
+pub mod Links
+pub mod LinksFull
+pub mod Sets

@@ -34,3 +34,4 @@ pub mod Reading
 pub mod MidEdit
 pub mod Spared
 pub mod WholeEdits
+pub mod WholeData

@@ -2,7 +2,8 @@
 
 ghost use Rattle.tree_laws.specs.MidEdit.{MidBegins, MidGives, MidGoesOn, MidSwitches, MidTakes, MidWrites};
 ghost use Rattle.tree_laws.specs.Spared.{MidEnds, RestIsLeft};
-ghost use Rattle.tree_laws.specs.WholeEdits.{CreateIsWhole, CreateIsWholeFull, DeleteIsWhole, LabelIsWhole, MoveIsWhole, MoveLastIsWhole, RenameIsWhole};
+ghost use Rattle.tree_laws.specs.WholeData.{PutAllIsWhole, PutPartIsWhole, SetDimsIsWhole};
+ghost use Rattle.tree_laws.specs.WholeEdits.{CreateIsWhole, CreateIsWholeFull, DeleteIsWhole, LabelIsWhole, LinkIsWhole, LinkIsWholeFull, MoveIsWhole, MoveLastIsWhole, RenameIsWhole};
 
 /// The steps of an edit on its way: from a layout on, takes of the heap, writes into what was taken, nodes that change, and
 /// gifts. All that is written lies in the heap's fields, in the gaps that the edit found, behind the end and in its own ranges.
@@ -44,4 +45,17 @@ pub fn deletions_are_whole()
 pub fn moves_are_whole()
     ensures over { MoveIsWhole }
     ensures last { MoveLastIsWhole }
+{}
+
+/// A link, whole: with an unused entry of its parent's table, or with a longer table.
+pub fn links_are_whole()
+    ensures entry { LinkIsWhole }
+    ensures full { LinkIsWholeFull }
+{}
+
+/// A shape that is set, and data that are put, whole: in new chunks, in the old ones, in one more, or in none.
+pub fn data_are_whole()
+    ensures shape { SetDimsIsWhole }
+    ensures all { PutAllIsWhole }
+    ensures part { PutPartIsWhole }
 {}
