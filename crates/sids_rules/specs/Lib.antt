@@ -1,4 +1,12 @@
 pub mod Zones
 pub mod Arrays
 pub mod Sections
+pub mod Offsets
 pub mod Words
+pub mod Values
+pub mod Terms
+pub mod Rules
+pub mod OffsetRules
+pub mod Walk
+pub mod Findings
+pub mod SeenNodes
