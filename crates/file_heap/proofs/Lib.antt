@@ -16,4 +16,6 @@ pub mod HeapFacts
 pub mod OrderLaws
 pub mod SpaceLaws
 pub mod JoinSteps
+pub mod Waiting
+pub mod Beside
 pub mod CallLaws

@@ -1,3 +1,4 @@
 pub mod Gaps
 pub mod Links
 pub mod Heap
+pub mod Beside

@@ -25,6 +25,7 @@ fn leave_list<S: Space>(space: &mut S, gaps: &[Extent], i: usize) -> Result<(), 
     ensures threads { OnOk result (IfSome (S.image space.new) (λ bytes. ThreadsFreeChunks bytes (remove gaps.now i))) }
     ensures bytes { Both (ChangesOnly (free_table ∷ filter is_free gaps.now)) (S.image space.old) (S.image space.new) }
     ensures effect { Looks (S.state space.old) (S.state space.new) }
+    ensures waiting { S.waiting space.new ≤ S.waiting space.old + 3 }
     ensures cause { IfErr result (IsRefusal (IsUntold (S.image space.old)) (S.state space.old).faults (S.state space.new).faults) }
 {
     if !is_free(gap_of(gaps, i)) {
@@ -44,6 +45,7 @@ fn absorb<S: Space>(space: &mut S, gaps: &mut Vec<Extent>, i: usize) -> Result<(
     ensures threads { OnOk result (IfSome (S.image space.new) (λ bytes. ThreadsFreeChunks bytes (remove gaps.old.items i))) }
     ensures bytes { Both (ChangesOnly (free_table ∷ filter is_free gaps.old.items)) (S.image space.old) (S.image space.new) }
     ensures effect { Looks (S.state space.old) (S.state space.new) }
+    ensures waiting { S.waiting space.new ≤ S.waiting space.old + 3 }
     ensures cause { IfErr result (IsRefusal (IsUntold (S.image space.old)) (S.state space.old).faults (S.state space.new).faults) }
 {
     leave_list(space, gaps, i)?;
@@ -68,6 +70,7 @@ fn give_alone<S: Space>(
     ensures given { OnOk result (BecomeGaps (put_by_place (new_gap place n) gaps.old.items) gaps.old.items gaps.new.items (S.image space.old) (S.image space.new)) }
     ensures bytes { Both (ChangesOnly (free_table ∷ range place n ∷ [])) (S.image space.old) (S.image space.new) }
     ensures effect { Looks (S.state space.old) (S.state space.new) }
+    ensures waiting { S.waiting space.new ≤ S.waiting space.old + 6 }
     ensures cause { IfErr result (IsRefusal (IsUntold (S.image space.old)) (S.state space.old).faults (S.state space.new).faults) }
 {
     if gaps.reserve(1).is_err() {
@@ -97,6 +100,7 @@ fn give_right<S: Space>(
     ensures given { OnOk result (BecomeGaps (give_right place n gaps.old.items) gaps.old.items gaps.new.items (S.image space.old) (S.image space.new)) }
     ensures bytes { Both (ChangesOnly (free_table ∷ range place n ∷ gaps.old.items)) (S.image space.old) (S.image space.new) }
     ensures effect { Looks (S.state space.old) (S.state space.new) }
+    ensures waiting { S.waiting space.new ≤ S.waiting space.old + 9 }
     ensures cause { IfErr result (IsRefusal (IsUntold (S.image space.old)) (S.state space.old).faults (S.state space.new).faults) }
 {
     let Some(i) = find_begin(gaps, place + n) else {
@@ -126,6 +130,7 @@ pub(crate) fn give_range<S: Space>(
     ensures given { OnOk result (BecomeGaps (give_joined place n gaps.old.items) gaps.old.items gaps.new.items (S.image space.old) (S.image space.new)) }
     ensures bytes { Both (ChangesOnly (free_table ∷ range place n ∷ gaps.old.items)) (S.image space.old) (S.image space.new) }
     ensures effect { Looks (S.state space.old) (S.state space.new) }
+    ensures waiting { S.waiting space.new ≤ S.waiting space.old + 12 }
     ensures cause { IfErr result (IsRefusal (IsUntold (S.image space.old)) (S.state space.old).faults (S.state space.new).faults) }
 {
     let Some(i) = find_end(gaps, place) else {

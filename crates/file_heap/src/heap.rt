@@ -92,6 +92,7 @@ impl Heap {
         ensures end { OnOk result (Both (MovesEnd self.old.now.end self.new.now.end) (S.image space.old) (S.image space.new)) }
         ensures fillers { OnOk result (Both (KeepsFillers self.old.now.gaps self.new.now.gaps) (S.image space.old) (S.image space.new)) }
         ensures effect { Looks (S.state space.old) (S.state space.new) }
+        ensures waiting { S.waiting space.new ≤ S.waiting space.old + 9 }
         ensures cause { IfErr result (IsTakeRefusal (IsUntold (S.image space.old)) (S.state space.old).faults (S.state space.new).faults) }
     {
         match find_fit(current(&self.work, &self.kept), n) {
@@ -122,6 +123,7 @@ impl Heap {
         ensures end { OnOk result (Both (MovesEnd self.old.now.end self.new.now.end) (S.image space.old) (S.image space.new)) }
         ensures fillers { OnOk result (Both (KeepsFillers self.old.now.gaps self.new.now.gaps) (S.image space.old) (S.image space.new)) }
         ensures effect { Looks (S.state space.old) (S.state space.new) }
+        ensures waiting { S.waiting space.new ≤ S.waiting space.old + 12 }
         ensures cause { IfErr result (IsRefusal (IsUntold (S.image space.old)) (S.state space.old).faults (S.state space.new).faults) }
     {
         give_back(space, self.alloc, &mut self.work, &self.kept, place, n)
@@ -226,6 +228,7 @@ fn grow<S: Space>(space: &mut S, end: &mut u64, limit: u64, n: u64) -> Result<u6
     ensures bytes { Both (ChangesOnly (end_pointer ∷ [])) (S.image space.old) (S.image space.new) }
     ensures end { OnOk result (Both (MovesEnd end.old end.new) (S.image space.old) (S.image space.new)) }
     ensures effect { Looks (S.state space.old) (S.state space.new) }
+    ensures waiting { S.waiting space.new ≤ S.waiting space.old + 1 }
     ensures cause { IfErr result (IsTakeRefusal (IsUntold (S.image space.old)) (S.state space.old).faults (S.state space.new).faults) }
 {
     let last = *end + n;
@@ -261,6 +264,7 @@ fn cut_front<S: Space>(
     ensures bytes { Both (ChangesOnly (free_table ∷ filter is_free gaps.old.items)) (S.image space.old) (S.image space.new) }
     ensures fillers { OnOk result (Both (KeepsFillers gaps.old.items (cut n gaps.old.items)) (S.image space.old) (S.image space.new)) }
     ensures effect { Looks (S.state space.old) (S.state space.new) }
+    ensures waiting { S.waiting space.new ≤ S.waiting space.old + 9 }
     ensures cause { IfErr result (IsRefusal (IsUntold (S.image space.old)) (S.state space.old).faults (S.state space.new).faults) }
 {
     let gap = gap_of(gaps, i);
@@ -291,6 +295,7 @@ fn take_front<S: Space>(
     ensures bytes { Both (ChangesOnly (free_table ∷ filter is_free (gaps_in work.old kept.now.items))) (S.image space.old) (S.image space.new) }
     ensures fillers { OnOk result (Both (KeepsFillers (gaps_in work.old kept.now.items) (cut n (gaps_in work.old kept.now.items))) (S.image space.old) (S.image space.new)) }
     ensures effect { Looks (S.state space.old) (S.state space.new) }
+    ensures waiting { S.waiting space.new ≤ S.waiting space.old + 9 }
     ensures cause { IfErr result (IsRefusal (IsUntold (S.image space.old)) (S.state space.old).faults (S.state space.new).faults) }
 {
     let mut gaps = working(alloc, work, kept)?;
@@ -320,6 +325,7 @@ fn give_back<S: Space>(
     ensures stays { OnErr result (gaps_in work.new kept.now.items ≡ gaps_in work.old kept.now.items) }
     ensures bytes { Both (ChangesOnly (free_table ∷ range place n ∷ gaps_in work.old kept.now.items)) (S.image space.old) (S.image space.new) }
     ensures effect { Looks (S.state space.old) (S.state space.new) }
+    ensures waiting { S.waiting space.new ≤ S.waiting space.old + 12 }
     ensures cause { IfErr result (IsRefusal (IsUntold (S.image space.old)) (S.state space.old).faults (S.state space.new).faults) }
 {
     let mut gaps = copy_of(alloc, current(work, kept))?;

@@ -7,6 +7,7 @@
 mod gaps;
 mod give;
 mod heap;
+pub mod laws;
 mod links;
 mod lists;
 

@@ -1,6 +1,6 @@
 // Pointers and bytes in a space.
 ghost use Rattle.std.specs.Prelude.{◌≡◌, ℕ, ◌∷◌, [], ◌^◌, ◌+◌, ◌*◌, ◌≤◌, ◌<◌, length, IfOk, IfErr, OnOk};
-ghost use Rattle.cg_io.specs.Blocks.{Both};
+ghost use Rattle.cg_io.specs.Blocks.{Both, blocks_of};
 ghost use Rattle.disk_ptr.specs.View.{view, HasOffset};
 ghost use Rattle.adf_format.specs.Pointer.{pointer_text};
 ghost use Rattle.adf_format.specs.Spelled.{pointer_to, IsInReach};
@@ -55,6 +55,7 @@ pub(crate) fn write_bytes<S: Space>(space: &mut S, at: u64, bytes: &[u8]) -> Res
     ensures written { OnOk result (Both (Writes at bytes.now) (S.image space.old) (S.image space.new)) }
     ensures bytes { Both (ChangesOnly (range at (length bytes.now) ∷ [])) (S.image space.old) (S.image space.new) }
     ensures effect { Looks (S.state space.old) (S.state space.new) }
+    ensures waiting { S.waiting space.new ≤ S.waiting space.old + blocks_of at (length bytes.now) }
     ensures cause { IfErr result (IsRefusal ⊥ (S.state space.old).faults (S.state space.new).faults) }
 {
     match space.write(at, bytes) {
@@ -65,6 +66,7 @@ pub(crate) fn write_bytes<S: Space>(space: &mut S, at: u64, bytes: &[u8]) -> Res
 }
 
 /// Writes the pointer to a free chunk, or the blank one.
+#[tactic(auto, using(crate::proofs::Waiting::few_blocks, crate::proofs::Waiting::one_block))]
 pub(crate) fn write_link<S: Space>(
     space: &mut S,
     at: u64,
@@ -77,6 +79,8 @@ pub(crate) fn write_link<S: Space>(
     ensures written { OnOk result (Both (Writes at (pointer_text (pointer_to next))) (S.image space.old) (S.image space.new)) }
     ensures bytes { Both (ChangesOnly (range at 12 ∷ [])) (S.image space.old) (S.image space.new) }
     ensures effect { Looks (S.state space.old) (S.state space.new) }
+    ensures waiting { S.waiting space.new ≤ S.waiting space.old + 2 }
+    ensures near { at + 12 ≤ 4096 → S.waiting space.new ≤ S.waiting space.old + 1 }
     ensures cause { IfErr result (IsRefusal ⊥ (S.state space.old).faults (S.state space.new).faults) }
 {
     write_bytes(space, at, &encode(pointer_of(next)))
@@ -102,6 +106,7 @@ pub(crate) fn read_link<S: Space>(space: &mut S, at: u64) -> Result<Option<u64>,
     ensures told { IfOk result (Follows (S.image space.old) at) }
     ensures reach { IfOk result IsInReach }
     ensures effect { Looks (S.state space.old) (S.state space.new) }
+    ensures waiting { S.waiting space.new ≡ S.waiting space.old }
     ensures cause { IfErr result (IsRefusal (PointsNowhere (S.image space.old) at) (S.state space.old).faults (S.state space.new).faults) }
 {
     let mut text = [0u8; 12];

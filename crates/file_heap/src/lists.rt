@@ -41,6 +41,7 @@ fn find_in<S: Space>(
     ensures found { IfOk result (λ found. IfSome (S.image space.old) (λ bytes. (t : ThreadsFreeChunks bytes gaps.now) → IsFound (list_of t list) place found)) }
     ensures spot { IfOk result (IsSpotIn list) }
     ensures effect { Looks (S.state space.old) (S.state space.new) }
+    ensures waiting { S.waiting space.new ≡ S.waiting space.old }
     ensures cause { IfErr result (IsRefusal (IsUntold (S.image space.old)) (S.state space.old).faults (S.state space.new).faults) }
 {
     let mut front = None;
@@ -75,6 +76,7 @@ fn find<S: Space>(space: &mut S, gaps: &[Extent], place: u64) -> Result<Spot, Ad
     ensures list { IfOk result (λ spot. spot.list < 3) }
     ensures head { IfOk result (λ spot. HasHead spot.front) }
     ensures effect { Looks (S.state space.old) (S.state space.new) }
+    ensures waiting { S.waiting space.new ≡ S.waiting space.old }
     ensures cause { IfErr result (IsRefusal (IsUntold (S.image space.old)) (S.state space.old).faults (S.state space.new).faults) }
 {
     for list in 0..3 {
@@ -100,6 +102,7 @@ fn end_list<S: Space>(
     ensures ended { OnOk result (Both (EndsList list behind last) (S.image space.old) (S.image space.new)) }
     ensures bytes { Both (ChangesOnly (free_table ∷ [])) (S.image space.old) (S.image space.new) }
     ensures effect { Looks (S.state space.old) (S.state space.new) }
+    ensures waiting { S.waiting space.new ≤ S.waiting space.old + 1 }
     ensures cause { IfErr result (IsRefusal ⊥ (S.state space.old).faults (S.state space.new).faults) }
 {
     match behind {
@@ -119,6 +122,7 @@ fn relink<S: Space>(space: &mut S, spot: Spot, next: Option<u64>) -> Result<(), 
     ensures relinked { OnOk result (Both (Relinks spot.list spot.front next) (S.image space.old) (S.image space.new)) }
     ensures bytes { Both (ChangesOnly (free_table ∷ link_range spot.front)) (S.image space.old) (S.image space.new) }
     ensures effect { Looks (S.state space.old) (S.state space.new) }
+    ensures waiting { S.waiting space.new ≤ S.waiting space.old + 3 }
     ensures cause { IfErr result (IsRefusal ⊥ (S.state space.old).faults (S.state space.new).faults) }
 {
     write_link(space, link_at(spot.list, spot.front), next)?;
@@ -142,6 +146,7 @@ fn next_behind<S: Space>(
     ensures told { IfOk result (Follows (S.image space.old) (place + 16)) }
     ensures reach { IfOk result IsInReach }
     ensures effect { Looks (S.state space.old) (S.state space.new) }
+    ensures waiting { S.waiting space.new ≡ S.waiting space.old }
     ensures cause { IfErr result (IsRefusal (IsUntold (S.image space.old)) (S.state space.old).faults (S.state space.new).faults) }
 {
     read_link(space, place + 16)
@@ -161,6 +166,7 @@ pub(crate) fn unlink<S: Space>(space: &mut S, gaps: &[Extent], i: usize) -> Resu
     ensures threads { OnOk result (IfSome (S.image space.new) (λ bytes. ThreadsFreeChunks bytes (remove gaps.now i))) }
     ensures bytes { Both (ChangesOnly (free_table ∷ filter is_free gaps.now)) (S.image space.old) (S.image space.new) }
     ensures effect { Looks (S.state space.old) (S.state space.new) }
+    ensures waiting { S.waiting space.new ≤ S.waiting space.old + 3 }
     ensures cause { IfErr result (IsRefusal (IsUntold (S.image space.old)) (S.state space.old).faults (S.state space.new).faults) }
 {
     let place = gap_of(gaps, i).place;
@@ -183,7 +189,7 @@ fn class_of(length: u64) -> u64
 }
 
 // Writes the head and the end tag of a free chunk.
-#[tactic(auto, using(crate::proofs::PushLaws::chunk_is_written, crate::proofs::PushLaws::head_changes, crate::proofs::PushLaws::tail_changes))]
+#[tactic(auto, using(crate::proofs::PushLaws::chunk_is_written, crate::proofs::PushLaws::head_changes, crate::proofs::PushLaws::tail_changes, crate::proofs::Waiting::few_blocks))]
 fn write_chunk<S: Space>(
     space: &mut S,
     place: u64,
@@ -198,6 +204,7 @@ fn write_chunk<S: Space>(
     ensures written { OnOk result (Both (WritesChunk place length next) (S.image space.old) (S.image space.new)) }
     ensures bytes { Both (ChangesOnly (range place length ∷ [])) (S.image space.old) (S.image space.new) }
     ensures effect { Looks (S.state space.old) (S.state space.new) }
+    ensures waiting { S.waiting space.new ≤ S.waiting space.old + 4 }
     ensures cause { IfErr result (IsRefusal ⊥ (S.state space.old).faults (S.state space.new).faults) }
 {
     let end = place + length - 4;
@@ -218,6 +225,7 @@ fn first_in<S: Space>(space: &mut S, list: u64) -> Result<Option<u64>, AdfError>
     ensures told { IfOk result (Follows (S.image space.old) (link_at list None)) }
     ensures reach { IfOk result IsInReach }
     ensures effect { Looks (S.state space.old) (S.state space.new) }
+    ensures waiting { S.waiting space.new ≡ S.waiting space.old }
     ensures cause { IfErr result (IsRefusal (ThreadsNone (S.image space.old)) (S.state space.old).faults (S.state space.new).faults) }
 {
     read_link(space, link_at(list, None))
@@ -233,6 +241,7 @@ fn push<S: Space>(space: &mut S, place: u64, length: u64) -> Result<(), AdfError
     ensures written { OnOk result (Both (WritesGap place length) (S.image space.old) (S.image space.new)) }
     ensures bytes { Both (ChangesOnly (free_table ∷ range place length ∷ [])) (S.image space.old) (S.image space.new) }
     ensures effect { Looks (S.state space.old) (S.state space.new) }
+    ensures waiting { S.waiting space.new ≤ S.waiting space.old + 6 }
     ensures cause { IfErr result (IsRefusal (ThreadsNone (S.image space.old)) (S.state space.old).faults (S.state space.new).faults) }
 {
     let list = class_of(length);
@@ -243,7 +252,7 @@ fn push<S: Space>(space: &mut S, place: u64, length: u64) -> Result<(), AdfError
 }
 
 // Fills a range of under 32 bytes.
-#[tactic(auto, using(crate::proofs::PushLaws::is_filled, crate::proofs::PushLaws::gap_changes))]
+#[tactic(auto, using(crate::proofs::PushLaws::is_filled, crate::proofs::PushLaws::gap_changes, crate::proofs::Waiting::few_blocks))]
 fn fill<S: Space>(space: &mut S, place: u64, length: u64) -> Result<(), AdfError>
     requires sound { S.is_sound space.old }
     requires some { 0 < length }
@@ -253,6 +262,7 @@ fn fill<S: Space>(space: &mut S, place: u64, length: u64) -> Result<(), AdfError
     ensures written { OnOk result (Both (WritesGap place length) (S.image space.old) (S.image space.new)) }
     ensures bytes { Both (ChangesOnly (free_table ∷ range place length ∷ [])) (S.image space.old) (S.image space.new) }
     ensures effect { Looks (S.state space.old) (S.state space.new) }
+    ensures waiting { S.waiting space.new ≤ S.waiting space.old + 2 }
     ensures cause { IfErr result (IsRefusal ⊥ (S.state space.old).faults (S.state space.new).faults) }
 {
     let bytes = [b'z'; 32];
@@ -268,6 +278,7 @@ pub(crate) fn write_gap<S: Space>(space: &mut S, place: u64, length: u64) -> Res
     ensures written { OnOk result (Both (WritesGap place length) (S.image space.old) (S.image space.new)) }
     ensures bytes { Both (ChangesOnly (free_table ∷ range place length ∷ [])) (S.image space.old) (S.image space.new) }
     ensures effect { Looks (S.state space.old) (S.state space.new) }
+    ensures waiting { S.waiting space.new ≤ S.waiting space.old + 6 }
     ensures cause { IfErr result (IsRefusal (ThreadsNone (S.image space.old)) (S.state space.old).faults (S.state space.new).faults) }
 {
     if length == 0 {

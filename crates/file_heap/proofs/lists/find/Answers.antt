@@ -12,6 +12,7 @@ pub loop-list-preserved : goal.loop-list-preserved
 loop-list-preserved g c = record {
   sound = c.find_in.ensures.sound;
   image = c.find_in.ensures.image ∙ c.loop-list.invariant.image;
+  waits = c.find_in.ensures.waiting ∙ c.loop-list.invariant.waits;
   looks = looks_then (g.S.ReadBytes.state c.args.space.now) (g.S.ReadBytes.state c.loop-list.space) (g.S.ReadBytes.state c.find_in.new.space) c.loop-list.invariant.looks c.find_in.ensures.effect;
   none = found_none (g.S.ReadBytes.image c.args.space.now) (g.S.ReadBytes.image c.loop-list.space) c.args.gaps.now c.loop-list.list c.args.place c.in_ok-spot.field-0
       c.loop-list.invariant.image c.in_ok-spot.ensures.found c.in_default.is c.loop-list.invariant.none;
