@@ -9,6 +9,9 @@ pub mod Creates
 pub mod CreatesFull
 pub mod Deletes
 pub mod Moves
+pub mod MovesFull
+pub mod MovesLastFull
 pub mod Links
 pub mod LinksFull
 pub mod Sets
+pub mod GroupsWhole

@@ -35,3 +35,4 @@ pub mod MidEdit
 pub mod Spared
 pub mod WholeEdits
 pub mod WholeData
+pub mod WholeGroups

@@ -1,5 +1,5 @@
 -- What an edit leaves follows from the ranges that it writes: each byte of them lies in a part that it may touch, and in none of the bytes that stay in such a part.
-use Rattle.std.specs.Prelude.{◌≡◌, ◌⊎◌, ℕ, ◌+◌, ◌-◌, ◌*◌, ◌<◌, ◌≤◌, Bool, List, [], ◌∷◌, ◌++◌, Some, Ok}
+use Rattle.std.specs.Prelude.{◌≡◌, ◌⊎◌, ℕ, ◌+◌, ◌-◌, ◌*◌, ◌<◌, ◌≤◌, Bool, List, [], ◌∷◌, ◌++◌, length, Some, Ok}
 use Rattle.std.specs.List.{Contains}
 use Rattle.adf_format.specs.declared.types.Extent.{Extent}
 use Rattle.adf_format.specs.Changes.{heap_fields}
@@ -8,7 +8,7 @@ use Rattle.adf_format.specs.Tree.{Tree}
 use Rattle.adf_format.specs.Tiles.{cover, end_of}
 use Rattle.adf_format.specs.Parts.{dimension_digits}
 use Rattle.adf_format.specs.Placement.{Placement, NodeParts, TablePart, parts_of, node_extents, live_extents}
-use Rattle.adf_format.specs.LaysOut.{LaysOut}
+use Rattle.adf_format.specs.LaysOut.{LaysOut, entry_count}
 use Rattle.adf_format.specs.HeapRule.{place_edit}
 use Rattle.adf_model.specs.declared.tree.Edit.{Edit}
 use Rattle.adf_model.specs.Edits.{file_step}
@@ -42,10 +42,15 @@ pub record IsSpared (touched : List Extent) (tree : Tree) (done : List (Edit × 
 abbrev pub AreSpared : List Extent → List Extent → Tree → List (Edit × Tree) → Placement → Placement → Type 0
 AreSpared ranges touched tree done p q = (b : ℕ) → 0 < cover ranges b → IsSpared touched tree done p q b
 
--- the parts that are not touched stay live, and headers stay where they are
+-- the parts that are not touched stay live, headers stay where they are, who is live and was drawn before was live, and a table that moves is longer
 pub record KeepsPlaces (touched : List Extent) (wide : Bool) (p q : Placement) : Type 0 where
   pub parts : (e : Extent) → Contains (live_extents wide p) e → (Contains touched e → ⊥) → Contains (live_extents wide q) e
   pub headers : (serial : ℕ) (from to : NodeParts) → parts_of p serial ≡ Some from → parts_of q serial ≡ Some to → to.header ≡ from.header
+  pub drawn : length p.parts ≤ length q.parts
+  pub before : (serial : ℕ) (to : NodeParts) → serial < length p.parts → parts_of q serial ≡ Some to
+      → (from : NodeParts) × (parts_of p serial ≡ Some from)
+  pub tables : (serial : ℕ) (from to : NodeParts) → parts_of p serial ≡ Some from → parts_of q serial ≡ Some to
+      → (to.table ≡ from.table) ⊎ (entry_count from.table < entry_count to.table)
 
 -- so what is written in such ranges, in gaps and behind the end leaves all else
 abbrev pub RestIsLeft : Type 0
@@ -65,6 +70,7 @@ pub record IsEditWhole (limit : ℕ) (writable : Bool) (edit : Edit) (tree : Tre
   pub laid_out : LaysOut new after q
   pub rest : KeepsRest limit tree p ((edit, after) ∷ []) q old new
   pub tail : KeepsTail q.heap.end old new
+  pub places : KeepsPlaces (touched_extents tree p edit) tree.wide p q
 
 -- an edit on its way at whose end nothing is taken is done
 abbrev pub MidEnds : Type 0

@@ -17,6 +17,8 @@ use Rattle.adf_model.specs.Creation.{empty_node, used_entries, unused_entries}
 use Rattle.adf_model.specs.declared.tree.Edit.{Edit}
 use Rattle.adf_model.specs.declared.tree.NodeId.{NodeId}
 use Rattle.adf_model.specs.Edits.{file_step}
+use Rattle.adf_format.specs.HeapBytes.{ChangesOnly}
+use Rattle.tree_laws.specs.Moving.{IsReplaced, with_longer}
 use Rattle.tree_laws.specs.MidEdit.{IsMidEdit, Puts, GivesAll}
 use Rattle.tree_laws.specs.EditsPlaced.{LinkStands}
 use Rattle.tree_laws.specs.NodeJoin.{with_parts_of_new, link_parts}
@@ -160,6 +162,58 @@ MoveLastIsWhole =
     (field old (t.place + 16 + 44 * (i + 1)) (44 * (length (children_at tree to.serial) - suc i))
     ++ entry_text (text_field 32 (name_at tree node.serial)) (To its.header)) old new
     → IsEditWhole limit writable (Edit.Move node to) tree p after p old new
+
+-- the same two where the table of the new parent was full, and a longer one, which the heap gave room for, replaced it first
+abbrev pub MoveIsWholeFull : Type 0
+MoveIsWholeFull =
+    (limit : ℕ) (writable : Bool) (old start grown a b c middle new : List ℕ) (tree after : Tree) (p : Placement)
+    (heap : Heap) (kind : ExtentKind) (node to : NodeId) (parent i table : ℕ) (from its other : NodeParts)
+    (t : TablePart)
+    → LaysOut old tree p → file_step writable tree (Edit.Move node to) ≡ Ok after
+    → parent_of tree node.serial ≡ Some parent → parent ≢ to.serial
+    → slice_get (children_at tree parent) i ≡ Some node.serial
+    → parts_of p parent ≡ Some from → from.table ≡ Some t → parts_of p node.serial ≡ Some its
+    → parts_of p to.serial ≡ Some other → entry_count other.table ≡ length (children_at tree to.serial)
+    → heap_take limit (table_length (grown_entries (length (children_at tree to.serial)))) p.heap ≡ Ok (table, heap)
+    → IsMidEdit (closing_ranges from t (length (children_at tree parent)) i ++ longer_ranges other) p old tree
+    (record p { heap = heap })
+    (extent kind table (table_length (grown_entries (length (children_at tree to.serial)))) ∷ []) start
+    → IsReplaced start grown other (length (children_at tree to.serial)) table
+    (grown_entries (length (children_at tree to.serial)))
+    → ChangesOnly (extent ExtentKind.Node (other.header + 68) 28 ∷ []) start grown
+    → Puts ExtentKind.SubNodes (t.place + 16 + 44 * i) (44 * (length (children_at tree parent) - suc i))
+    (field grown (t.place + 16 + 44 * (i + 1)) (44 * (length (children_at tree parent) - suc i))) grown a
+    → Puts ExtentKind.Node (from.header + 68) 8 (hex_text 8 (length (children_at tree parent) - 1)) a b
+    → Puts ExtentKind.SubNodes (table + 16 + 44 * length (children_at tree to.serial)) 44
+    (entry_text (text_field 32 (name_at tree node.serial)) (To its.header)) b c
+    → Puts ExtentKind.Node (other.header + 68) 8 (hex_text 8 (suc (length (children_at tree to.serial)))) c middle
+    → GivesAll (table_extents other.table) heap middle new
+    → IsEditWhole limit writable (Edit.Move node to) tree p after
+    (after_gives (with_longer (record p { heap = heap }) to.serial other table
+    (grown_entries (length (children_at tree to.serial)))) (table_extents other.table)) old new
+
+abbrev pub MoveLastIsWholeFull : Type 0
+MoveLastIsWholeFull =
+    (limit : ℕ) (writable : Bool) (old start grown middle new : List ℕ) (tree after : Tree) (p : Placement)
+    (heap : Heap) (kind : ExtentKind) (node to : NodeId) (i table : ℕ) (from its : NodeParts)
+    → LaysOut old tree p → file_step writable tree (Edit.Move node to) ≡ Ok after
+    → parent_of tree node.serial ≡ Some to.serial
+    → slice_get (children_at tree to.serial) i ≡ Some node.serial
+    → parts_of p to.serial ≡ Some from → parts_of p node.serial ≡ Some its
+    → entry_count from.table ≡ length (children_at tree to.serial)
+    → heap_take limit (table_length (grown_entries (length (children_at tree to.serial)))) p.heap ≡ Ok (table, heap)
+    → IsMidEdit (longer_ranges from) p old tree (record p { heap = heap })
+    (extent kind table (table_length (grown_entries (length (children_at tree to.serial)))) ∷ []) start
+    → IsReplaced start grown from (length (children_at tree to.serial)) table
+    (grown_entries (length (children_at tree to.serial)))
+    → ChangesOnly (extent ExtentKind.Node (from.header + 68) 28 ∷ []) start grown
+    → Puts ExtentKind.SubNodes (table + 16 + 44 * i) (44 * (length (children_at tree to.serial) - i))
+    (field grown (table + 16 + 44 * (i + 1)) (44 * (length (children_at tree to.serial) - suc i))
+    ++ entry_text (text_field 32 (name_at tree node.serial)) (To its.header)) grown middle
+    → GivesAll (table_extents from.table) heap middle new
+    → IsEditWhole limit writable (Edit.Move node to) tree p after
+    (after_gives (with_longer (record p { heap = heap }) to.serial from table
+    (grown_entries (length (children_at tree to.serial)))) (table_extents from.table)) old new
 
 -- ---- a link
 

@@ -3,7 +3,8 @@
 ghost use Rattle.tree_laws.specs.MidEdit.{MidBegins, MidGives, MidGoesOn, MidSwitches, MidTakes, MidWrites};
 ghost use Rattle.tree_laws.specs.Spared.{MidEnds, RestIsLeft};
 ghost use Rattle.tree_laws.specs.WholeData.{PutAllIsWhole, PutPartIsWhole, SetDimsIsWhole};
-ghost use Rattle.tree_laws.specs.WholeEdits.{CreateIsWhole, CreateIsWholeFull, DeleteIsWhole, LabelIsWhole, LinkIsWhole, LinkIsWholeFull, MoveIsWhole, MoveLastIsWhole, RenameIsWhole};
+ghost use Rattle.tree_laws.specs.WholeGroups.{WholeGroupBegins, WholeGroupGoesOn};
+ghost use Rattle.tree_laws.specs.WholeEdits.{CreateIsWhole, CreateIsWholeFull, DeleteIsWhole, LabelIsWhole, LinkIsWhole, LinkIsWholeFull, MoveIsWhole, MoveIsWholeFull, MoveLastIsWhole, MoveLastIsWholeFull, RenameIsWhole};
 
 /// The steps of an edit on its way: from a layout on, takes of the heap, writes into what was taken, nodes that change, and
 /// gifts. All that is written lies in the heap's fields, in the gaps that the edit found, behind the end and in its own ranges.
@@ -40,11 +41,13 @@ pub fn deletions_are_whole()
     ensures { DeleteIsWhole }
 {}
 
-/// A node that is moved, whole, where the table of its new parent has an unused entry: to another parent, or to the end of
-/// its own list.
+/// A node that is moved, whole: to another parent, or to the end of its own list; where the table of its new parent has an
+/// unused entry, or with a longer table.
 pub fn moves_are_whole()
     ensures over { MoveIsWhole }
     ensures last { MoveLastIsWhole }
+    ensures over_full { MoveIsWholeFull }
+    ensures last_full { MoveLastIsWholeFull }
 {}
 
 /// A link, whole: with an unused entry of its parent's table, or with a longer table.
@@ -58,4 +61,10 @@ pub fn data_are_whole()
     ensures shape { SetDimsIsWhole }
     ensures all { PutAllIsWhole }
     ensures part { PutPartIsWhole }
+{}
+
+/// A loop over the edits of a group, turn by turn: what they leave together.
+pub fn groups_are_whole()
+    ensures begins { WholeGroupBegins }
+    ensures turn { WholeGroupGoesOn }
 {}

@@ -155,7 +155,7 @@ erased_was gone xs j a e = by_gone (gone j) (sym (erased_at gone xs j) ∙ e)
     by_gone true e = absurd (not_there a e)
     by_gone false e = e
 
-length-erased : (k : ℕ) (gone : ℕ → Bool) (xs : List (Option NodeParts)) → length (erased_from k gone xs) ≡ length xs
+pub length-erased : (k : ℕ) (gone : ℕ → Bool) (xs : List (Option NodeParts)) → length (erased_from k gone xs) ≡ length xs
 length-erased k gone [] = refl
 length-erased k gone (x ∷ xs) = ap suc (length-erased (suc k) gone xs)
 

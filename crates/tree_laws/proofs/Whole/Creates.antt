@@ -49,7 +49,7 @@ use Rattle.tree_laws.proofs.Whole.Mid.{mid_switches, mid_gives}
 use Rattle.tree_laws.proofs.Whole.Ends.{mid_ends}
 use Rattle.tree_laws.proofs.Whole.Texts.{puts_two}
 use Rattle.tree_laws.proofs.Whole.Spares.{both_spared, header_of, list_part}
-use Rattle.tree_laws.proofs.Whole.Joins.{one_more_part, table_and_more, more_places, fields_spared, entry_spared, old_table_spared, one_child_more, list_is, list_has_header, list_has_table}
+use Rattle.tree_laws.proofs.Whole.Joins.{tables_more, tables_longer_more, one_more_part, table_and_more, more_places, fields_spared, entry_spared, old_table_spared, one_child_more, list_is, list_has_header, list_has_table}
 
 -- ---- tables
 
@@ -200,7 +200,7 @@ module _ (limit : ℕ) (writable : Bool) (old a middle new : List ℕ) (tree aft
 
   pub create_whole : IsEditWhole limit writable edit tree p after q old new
   create_whole = mid_ends limit writable edit tree after p q ranges old new l made placed joined spared
-      (more_places [] touched tree.wide p q (λ e c. absurd (none_in e c)) (one_more_part tree.wide p (Some (record no_parts { header = header })) heap))
+      (more_places [] touched tree.wide p q (λ e c. absurd (none_in e c)) (tables_more p (Some (record no_parts { header = header })) heap) (one_more_part tree.wide p (Some (record no_parts { header = header })) heap))
 
 pub create_is_whole : CreateIsWhole
 create_is_whole limit writable old a middle new tree after p heap kind at name label header from t l made takes near u text stands has room v w =

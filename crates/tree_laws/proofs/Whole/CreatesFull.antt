@@ -49,7 +49,7 @@ use Rattle.tree_laws.proofs.Whole.Mid.{mid_switches, mid_gives}
 use Rattle.tree_laws.proofs.Whole.Ends.{mid_ends}
 use Rattle.tree_laws.proofs.Whole.Texts.{puts_two}
 use Rattle.tree_laws.proofs.Whole.Spares.{both_spared, header_of, list_part}
-use Rattle.tree_laws.proofs.Whole.Joins.{one_more_part, table_and_more, more_places, fields_spared, entry_spared, old_table_spared, one_child_more, list_is, list_has_header, list_has_table}
+use Rattle.tree_laws.proofs.Whole.Joins.{tables_more, tables_longer_more, one_more_part, table_and_more, more_places, fields_spared, entry_spared, old_table_spared, one_child_more, list_is, list_has_header, list_has_table}
 use Rattle.tree_laws.proofs.Whole.Creates.{agrees, more_entries, few_entries, new_placed_full, front_in, placed_by, grown, short_text, sound, short}
 
 module _ (limit : ℕ) (writable : Bool) (old a middle new : List ℕ) (tree after : Tree) (p : Placement) (between heap : Heap) (kind other : ExtentKind) (at : NodeId) (name label : List ℕ) (header table entries : ℕ) (from : NodeParts)
@@ -125,7 +125,7 @@ module _ (limit : ℕ) (writable : Bool) (old a middle new : List ℕ) (tree aft
   pub create_whole_full : IsEditWhole limit writable edit tree p after q old new
   create_whole_full = mid_ends limit writable edit tree after p q ranges old new l made placed ended spared
       (more_places (table_extents from.table ++ []) touched tree.wide p q (λ e c. list_has_table tree.wide p at.serial from stands e (front_in (table_extents from.table) e c))
-      (table_and_more tree.wide p at.serial from (Some (record { place = table; entries = entries })) (Some (record no_parts { header = header })) q.heap stands))
+      (tables_longer_more p at.serial from table entries (Some (record no_parts { header = header })) q.heap stands (let m = more_entries count in omega (arith, m, full, many))) (table_and_more tree.wide p at.serial from (Some (record { place = table; entries = entries })) (Some (record no_parts { header = header })) q.heap stands))
 
 pub create_is_whole_full : CreateIsWholeFull
 create_is_whole_full limit writable old a middle new tree after p between heap kind other at name label header table entries from l made full many takes near takes_table far u text stands list w g =

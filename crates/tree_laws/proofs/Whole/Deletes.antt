@@ -31,7 +31,7 @@ use Rattle.tree_laws.proofs.Holding.Steps.{from_layout}
 use Rattle.tree_laws.proofs.Holding.GiftsFolded.{deleted_are_taken, erased_left}
 use Rattle.tree_laws.proofs.Deletes.DeletedTree.{deleted_in_its_tree}
 use Rattle.tree_laws.proofs.Groups.GroupsGrow.{step_reaches}
-use Rattle.tree_laws.proofs.Leaving.ListLeaves.{contains_flat, erased_at, erased_was, live_too, room, stays}
+use Rattle.tree_laws.proofs.Leaving.ListLeaves.{length-erased, contains_flat, erased_at, erased_was, live_too, room, stays}
 use Rattle.tree_laws.proofs.Whole.Mid.{mid_begins, mid_switches, mid_gives}
 use Rattle.tree_laws.proofs.Whole.Ends.{mid_ends}
 use Rattle.tree_laws.proofs.Whole.Texts.{puts_two}
@@ -146,6 +146,9 @@ module _ (limit : ℕ) (writable : Bool) (old a middle new : List ℕ) (tree aft
         let n = node_of tree.wide p.parts e live in
         stays old a middle tree after p [] node parent i at t h applied above listed placed has closes n.0 n.1 e n.2 n.3 (λ c. free (subst (λ xs. Contains xs e) (sym touched_is) c));
     headers = λ serial from to there last. ap (λ (x : NodeParts). x.header) (same_Some to from (sym (erased_was (λ j. not (is_live after j)) p.parts serial to last) ∙ there));
+    drawn = (let e = length-erased 0 (λ j. not (is_live after j)) p.parts in omega (arith, e));
+    before = λ serial to lt last. (to, erased_was (λ j. not (is_live after j)) p.parts serial to last);
+    tables = λ serial from to there last. inl (ap (λ (x : NodeParts). x.table) (same_Some to from (sym (erased_was (λ j. not (is_live after j)) p.parts serial to last) ∙ there)));
   }
 
   pub delete_whole : IsEditWhole limit writable edit tree p after q old new

@@ -6,7 +6,7 @@ use Rattle.tree_laws.specs.Spared.{AreSpared, KeepsPlaces, MidEnds, IsEditWhole}
 use Rattle.tree_laws.proofs.Holding.Steps.{to_layout}
 use Rattle.tree_laws.proofs.Whole.Rest.{rest_is_left}
 
-nothing_behind : (xs : List Extent) → xs ++ [] ≡ xs
+pub nothing_behind : (xs : List Extent) → xs ++ [] ≡ xs
 nothing_behind [] = refl
 nothing_behind (x ∷ xs) = ap (λ ys. x ∷ ys) (nothing_behind xs)
 
@@ -20,4 +20,5 @@ mid_ends limit writable edit tree after p q ranges old new l made placed u own k
       laid_out = to_layout new after q u.holds;
       rest = left.0;
       tail = left.1;
+      places = keeps;
     }

@@ -1,5 +1,7 @@
 -- What an edit that adds a child spares: of its parent the header and the table change, or a longer table takes the place of a full one.
 use Rattle.std.proofs.Common.{◌≡◌, ◌≢◌, ◌⊎◌, inl, inr, ℕ, zero, suc, refl, sym, ◌∙◌, ap, subst, arith, List, [], ◌∷◌, ◌++◌, length, length-append, get_or, ◌+◌, ◌-◌, ◌*◌, ◌<◌, ◌≤◌, Bool, true, false}
+use Rattle.std.proofs.lemmas.Bool.Decides.{eqb_tells}
+use Rattle.std.proofs.lemmas.List.{length-set}
 use Rattle.std.specs.Prelude.{Option, Some, None, slice_set}
 use Rattle.std.specs.List.{Contains}
 use Rattle.adf_format.specs.declared.types.Extent.{Extent}
@@ -17,10 +19,10 @@ use Rattle.adf_model.proofs.CreateStays.{node_of, of_node}
 use Rattle.adf_model.proofs.CreatedNodes.{at_set, there_inside}
 use Rattle.tree_laws.specs.Parting.{KeepsParts}
 use Rattle.tree_laws.specs.Spared.{IsSpared, AreSpared, KeepsPlaces}
-use Rattle.tree_laws.specs.WholeEdits.{entry_ranges, longer_ranges}
-use Rattle.tree_laws.proofs.Edits.LabelSet.{set_here}
+use Rattle.tree_laws.specs.WholeEdits.{entry_ranges, longer_ranges, with_longer_table}
+use Rattle.tree_laws.proofs.Edits.LabelSet.{set_here, set_there}
 use Rattle.tree_laws.proofs.Leaving.PartsKept.{front_of, same_header, longer_by, table_parts, parts_go_on}
-use Rattle.tree_laws.proofs.Whole.Spares.{none_spared, one_spared, both_spared, each_spared, header_spared, entries_spared, part_spared, dims_fit, header_of, list_part, table_own, keeps_places}
+use Rattle.tree_laws.proofs.Whole.Spares.{none_spared, one_spared, both_spared, each_spared, header_spared, entries_spared, part_spared, dims_fit, header_of, list_part, table_own}
 
 least : (wide : Bool) → 246 ≤ node_length wide
 least false = omega arith
@@ -44,8 +46,43 @@ table_and_more wide p s from t x heap at =
     parts_go_on (table_extents from.table) [] wide p (record p { parts = slice_set p.parts s (Some (record from { table = t })) }) (record { parts = slice_set p.parts s (Some (record from { table = t })) ++ x ∷ []; heap = heap })
     (table_parts wide p s from t at) (one_more_part wide (record p { parts = slice_set p.parts s (Some (record from { table = t })) }) x heap)
 
-pub more_places : (few more : List Extent) (wide : Bool) (p q : Placement) → ((e : Extent) → Contains few e → Contains more e) → KeepsParts few wide p q → KeepsPlaces more wide p q
-more_places few more wide p q in_more k = record { parts = λ e live free. k.parts e live (λ c. free (in_more e c)); headers = k.headers }
+-- the heap is no part
+pub any_heap : (few : List Extent) (wide : Bool) (p q : Placement) (heap : Heap) → KeepsParts few wide p q → KeepsParts few wide p (record q { heap = heap })
+any_heap few wide p q heap k = record { parts = k.parts; headers = k.headers; drawn = k.drawn; before = k.before }
+
+-- what becomes of a table
+abbrev pub Longer : NodeParts → NodeParts → Type 0
+Longer from to = (to.table ≡ from.table) ⊎ (entry_count from.table < entry_count to.table)
+
+abbrev pub TablesGrow : Placement → Placement → Type 0
+TablesGrow p q = (k : ℕ) (a b : NodeParts) → parts_of p k ≡ Some a → parts_of q k ≡ Some b → Longer a b
+
+pub more_places : (few more : List Extent) (wide : Bool) (p q : Placement) → ((e : Extent) → Contains few e → Contains more e) → TablesGrow p q → KeepsParts few wide p q → KeepsPlaces more wide p q
+more_places few more wide p q in_more grow k = record { parts = λ e live free. k.parts e live (λ c. free (in_more e c)); headers = k.headers; drawn = k.drawn; before = k.before; tables = grow }
+
+-- one node more leaves all tables
+pub tables_more : (p : Placement) (x : Option NodeParts) (heap : Heap) → TablesGrow p (record { parts = p.parts ++ x ∷ []; heap = heap })
+tables_more p x heap k a b at there = inl (ap (λ (z : NodeParts). z.table) (same_Some b a (sym there ∙ front_of p.parts x None k (there_inside p.parts k a at) ∙ at)))
+
+-- a longer table is one node's alone
+pub tables_longer : (p : Placement) (s : ℕ) (from : NodeParts) (table entries : ℕ) (heap : Heap) → parts_of p s ≡ Some from → entry_count from.table < entries
+    → TablesGrow p (record { parts = slice_set p.parts s (Some (with_longer_table from table entries)); heap = heap })
+tables_longer p s from table entries heap stands longer k a b at there = elim (eqb_tells k s) [
+  | inl same ↦ (
+      let is : a ≡ from = same_Some a from (sym at ∙ ap (parts_of p) same.1 ∙ stands) in
+      let now : with_longer_table from table entries ≡ b = same_Some (with_longer_table from table entries) b
+      (sym (set_here p.parts s (Some (with_longer_table from table entries)) None (there_inside p.parts s from stands)) ∙ sym (ap (λ (j : ℕ). get_or (slice_set p.parts s (Some (with_longer_table from table entries))) j None) same.1) ∙ there) in
+      let was = ap (λ (z : NodeParts). entry_count z.table) is in
+      let will = ap (λ (z : NodeParts). entry_count z.table) now in inr (omega (arith, longer, was, will)))
+  | inr other ↦ inl (ap (λ (z : NodeParts). z.table) (same_Some b a (sym there ∙ set_there p.parts s k (Some (with_longer_table from table entries)) None other.1 ∙ at)))
+]
+
+-- and with one node more
+pub tables_longer_more : (p : Placement) (s : ℕ) (from : NodeParts) (table entries : ℕ) (x : Option NodeParts) (heap : Heap) → parts_of p s ≡ Some from → entry_count from.table < entries
+    → TablesGrow p (record { parts = slice_set p.parts s (Some (with_longer_table from table entries)) ++ x ∷ []; heap = heap })
+tables_longer_more p s from table entries x heap stands longer k a b at there =
+    tables_longer p s from table entries heap stands longer k a b at
+    (sym (front_of (slice_set p.parts s (Some (with_longer_table from table entries))) x None k (let e = length-set p.parts s (Some (with_longer_table from table entries)) in let lt = there_inside p.parts k a at in omega (arith, e, lt))) ∙ there)
 
 -- ---- ranges
 

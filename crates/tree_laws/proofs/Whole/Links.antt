@@ -49,7 +49,7 @@ use Rattle.tree_laws.proofs.Whole.Mid.{mid_switches, mid_gives}
 use Rattle.tree_laws.proofs.Whole.Ends.{mid_ends}
 use Rattle.tree_laws.proofs.Whole.Texts.{puts_two}
 use Rattle.tree_laws.proofs.Whole.Spares.{both_spared, header_of, list_part}
-use Rattle.tree_laws.proofs.Whole.Joins.{one_more_part, table_and_more, more_places, fields_spared, entry_spared, old_table_spared, one_child_more, list_is, list_has_header, list_has_table}
+use Rattle.tree_laws.proofs.Whole.Joins.{tables_more, tables_longer_more, one_more_part, table_and_more, more_places, fields_spared, entry_spared, old_table_spared, one_child_more, list_is, list_has_header, list_has_table}
 use Rattle.adf_format.specs.Links.{link_text}
 use Rattle.tree_laws.specs.EditsPlaced.{LinkStands}
 use Rattle.tree_laws.specs.NodeJoin.{with_parts_of_new, link_parts}
@@ -155,7 +155,7 @@ module _ (limit : ℕ) (writable : Bool) (old a middle new : List ℕ) (tree aft
 
   pub link_whole : IsEditWhole limit writable edit tree p after q old new
   link_whole = mid_ends limit writable edit tree after p q ranges old new l made placed joined spared
-      (more_places [] touched tree.wide p q (λ e c. absurd (none_in e c)) (one_more_part tree.wide p (Some its) heap))
+      (more_places [] touched tree.wide p q (λ e c. absurd (none_in e c)) (tables_more p (Some its) heap) (one_more_part tree.wide p (Some its) heap))
 
 pub link_is_whole : LinkIsWhole
 link_is_whole limit writable old a middle new tree after p between heap hk ck at name file path header place from t l made takes takes_chunk u there stands has room v w =

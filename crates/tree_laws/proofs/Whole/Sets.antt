@@ -1,6 +1,7 @@
 -- The shape and the data of a node are set, whole.
 use Rattle.std.proofs.Common.{◌≡◌, ◌≢◌, ◌⊎◌, inl, inr, ℕ, zero, suc, refl, sym, ◌∙◌, ap, subst, arith, List, [], ◌∷◌, ◌++◌, length, get_or, ◌+◌, ◌-◌, ◌*◌, ◌<◌, ◌≤◌, Bool, true, false}
 use Rattle.std.proofs.lemmas.Bool.Decides.{eqb_tells}
+use Rattle.std.proofs.lemmas.List.{length-set}
 use Rattle.std.proofs.lemmas.List.Elements.{Contains-append_left, Contains-append_right, Contains-append_cases}
 use Rattle.std.specs.Prelude.{Option, Some, None, Ok, slice_set}
 use Rattle.std.specs.List.{Contains, AllByRecursion}
@@ -34,7 +35,6 @@ use Rattle.tree_laws.proofs.Data.DataSwitched.{data_switches}
 use Rattle.tree_laws.proofs.Edits.LabelSet.{set_here, set_there}
 use Rattle.tree_laws.proofs.Groups.GroupsGrow.{step_reaches}
 use Rattle.tree_laws.proofs.Leaving.ListsLeave.{list_or_data, data_in_node, list_extents, only_one}
-use Rattle.tree_laws.proofs.Leaving.PartsKept.{same_header}
 use Rattle.tree_laws.proofs.Whole.Mid.{mid_switches, mid_gives}
 use Rattle.tree_laws.proofs.Whole.Ends.{mid_ends}
 use Rattle.tree_laws.proofs.Whole.Spares.{one_spared, both_spared, each_spared, header_spared, shape_spared, part_spared, header_of, list_part, table_own}
@@ -90,20 +90,30 @@ data_places : (wide : Bool) (p : Placement) (heap : Heap) (s : ℕ) (from : Node
     → KeepsPlaces (data_of wide p s) wide p (record (with_parts p s (with_data from chunks table)) { heap = heap })
 data_places wide p heap s from chunks table at = record {
   parts = λ e live free. let n = node_of wide p.parts e live in on e free n.0 n.1 n.2 n.3;
-  headers = λ k a b there now. elim (eqb_tells k s) [
-    | inl same ↦ (
-        let is : a ≡ from = same_Some a from (sym there ∙ ap (parts_of p) same.1 ∙ at) in
-        let now_is : with_data from chunks table ≡ b = same_Some (with_data from chunks table) b (sym here ∙ sym (ap (λ (j : ℕ). get_or after j None) same.1) ∙ now) in
-        sym (ap (λ (x : NodeParts). x.header) now_is) ∙ sym (ap (λ (x : NodeParts). x.header) is))
-    | inr other ↦ same_header (parts_of p k) a b there (sym (set_there p.parts s k (Some (with_data from chunks table)) None other.1) ∙ now)
+  headers = λ k a b there now. (same_list k a b there now).0;
+  drawn = (let e = length-set p.parts s (Some (with_data from chunks table)) in omega (arith, e));
+  before = λ k b lt now. elim (eqb_tells k s) [
+    | inl same ↦ (from, ap (parts_of p) same.1 ∙ at)
+    | inr other ↦ (b, sym (set_there p.parts s k (Some (with_data from chunks table)) None other.1) ∙ now)
   ];
+  tables = λ k a b there now. inl (same_list k a b there now).1;
 }
   where
-    after : List (Option NodeParts)
-    after = slice_set p.parts s (Some (with_data from chunks table))
-
     here : get_or (slice_set p.parts s (Some (with_data from chunks table))) s None ≡ Some (with_data from chunks table)
     here = set_here p.parts s (Some (with_data from chunks table)) None (there_inside p.parts s from at)
+
+    same_list : (k : ℕ) (a b : NodeParts) → parts_of p k ≡ Some a → get_or (slice_set p.parts s (Some (with_data from chunks table))) k None ≡ Some b → (b.header ≡ a.header) × (b.table ≡ a.table)
+    same_list k a b there now = elim (eqb_tells k s) [
+      | inl same ↦ (
+          let is : a ≡ from = same_Some a from (sym there ∙ ap (parts_of p) same.1 ∙ at) in
+          let now_is : with_data from chunks table ≡ b = same_Some (with_data from chunks table) b (sym here ∙ sym (ap (λ (j : ℕ). get_or (slice_set p.parts s (Some (with_data from chunks table))) j None) same.1) ∙ now) in (
+            sym (ap (λ (x : NodeParts). x.header) now_is) ∙ sym (ap (λ (x : NodeParts). x.header) is),
+            sym (ap (λ (x : NodeParts). x.table) now_is) ∙ sym (ap (λ (x : NodeParts). x.table) is),
+          ))
+      | inr other ↦ (
+          let is : b ≡ a = same_Some b a (sym now ∙ set_there p.parts s k (Some (with_data from chunks table)) None other.1 ∙ there) in
+          (ap (λ (x : NodeParts). x.header) is, ap (λ (x : NodeParts). x.table) is))
+    ]
 
     own_table : (e : Extent) → (Contains (data_of wide p s) e → ⊥) → Contains (list_extents wide from) e → Contains (node_extents wide (with_data from chunks table)) e
     own_table e free c =

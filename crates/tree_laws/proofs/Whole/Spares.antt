@@ -18,8 +18,7 @@ use Rattle.adf_model.specs.declared.tree.Edit.{Edit}
 use Rattle.adf_model.specs.Untouched.{group_shaped, most_dims, most_children}
 use Rattle.adf_model.proofs.Basics.{not_there, same_Some}
 use Rattle.adf_model.proofs.ManyWrites.{less_or}
-use Rattle.tree_laws.specs.Parting.{KeepsParts}
-use Rattle.tree_laws.specs.Spared.{IsOutside, SparesRest, IsSpared, AreSpared, KeepsPlaces}
+use Rattle.tree_laws.specs.Spared.{IsOutside, SparesRest, IsSpared, AreSpared}
 use Rattle.tree_laws.proofs.Holding.Steps.{from_layout, once}
 use Rattle.tree_laws.proofs.Edits.LabelDone.{range_holds}
 use Rattle.tree_laws.proofs.Whole.Rest.{one_extent}
@@ -201,7 +200,3 @@ module _ (touched : List Extent) (tree : Tree) (done : List (Edit × Tree)) (p q
     high = high;
     rest = λ to then. absurd (not_there to (sym gone ∙ then));
   }
-
--- places are kept where parts are
-pub keeps_places : (touched : List Extent) (wide : Bool) (p q : Placement) → KeepsParts touched wide p q → KeepsPlaces touched wide p q
-keeps_places touched wide p q k = record { parts = k.parts; headers = k.headers }

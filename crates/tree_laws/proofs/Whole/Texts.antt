@@ -48,6 +48,9 @@ pub same_places : (touched : List Extent) (wide : Bool) (p : Placement) → Keep
 same_places touched wide p = record {
   parts = λ e live free. live;
   headers = λ serial from to at then. ap (λ (x : NodeParts). x.header) (same_Some to from (sym then ∙ at));
+  drawn = omega arith;
+  before = λ serial to lt there. (to, there);
+  tables = λ serial from to at then. inl (ap (λ (x : NodeParts). x.table) (same_Some to from (sym then ∙ at)));
 }
 
 least : (wide : Bool) → 246 ≤ node_length wide
