@@ -4,4 +4,3 @@ pub mod SubtreeWalked
 pub mod DeletedTree
 pub mod SerialOrdered
 pub mod DeletionFollowed
-pub mod Erased

@@ -11,5 +11,3 @@ pub mod EditsPlaced
 pub mod Plans
 pub mod PlanNew
 pub mod UnderWay
-pub mod Switched
-pub mod MoreSwitched

@@ -2,9 +2,6 @@
 use Rattle.std.specs.Prelude.{◌≡◌, ℕ, ◌<◌, List, [], ◌∷◌, ◌++◌, length, slice_get, Some, Ok}
 use Rattle.std.specs.List.{AllByRecursion}
 use Rattle.adf_format.specs.declared.types.Extent.{Extent}
-use Rattle.adf_format.specs.declared.fields.TheConstants.{HEADER_END}
-use Rattle.adf_format.specs.RecordFields.{field_in}
-use Rattle.adf_format.specs.Pointer.{PointsTo}
 use Rattle.adf_format.specs.Tree.{Tree, children_at, parent_of}
 use Rattle.adf_format.specs.Tiles.{cover}
 use Rattle.adf_format.specs.Placement.{Placement, NodeParts, TablePart, Heap, parts_of}

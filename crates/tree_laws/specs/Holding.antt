@@ -1,5 +1,5 @@
 -- A file in the midst of an edit: it holds a tree, and some ranges are taken that no node uses.
-use Rattle.std.specs.Prelude.{◌≡◌, ℕ, ◌<◌, ◌≤◌, true, false, IsTrue, List, ◌++◌, length, map, slice_get, Some, is_some, filter, ◌⊎◌}
+use Rattle.std.specs.Prelude.{◌≡◌, ℕ, ◌<◌, ◌≤◌, true, false, IsTrue, List, ◌++◌, length, map, slice_get, Some, is_some, ◌⊎◌}
 use Rattle.adf_format.specs.declared.types.Extent.{Extent}
 use Rattle.adf_format.specs.declared.fields.TheConstants.{HEADER_LENGTH}
 use Rattle.adf_format.specs.Fields.{field}

@@ -27,9 +27,6 @@ pub mod InPlace
 pub mod FileLoop
 pub mod UnderWay
 pub mod Parting
-pub mod Switches
-pub mod MoreSwitches
-pub mod Erasing
 pub mod Reading
 pub mod MidEdit
 pub mod Spared

@@ -2,9 +2,6 @@
 use Rattle.std.specs.Prelude.{◌≡◌, ℕ, ◌+◌, ◌<◌, ◌≤◌, Bool, List, [], ◌∷◌, ◌++◌, Ok}
 use Rattle.adf_format.specs.declared.types.Extent.{Extent}
 use Rattle.adf_format.specs.declared.types.ExtentKind.{ExtentKind}
-use Rattle.adf_format.specs.declared.fields.TheConstants.{HEADER_END}
-use Rattle.adf_format.specs.RecordFields.{field_in}
-use Rattle.adf_format.specs.Pointer.{PointsTo}
 use Rattle.adf_format.specs.Changes.{heap_fields}
 use Rattle.adf_format.specs.Tree.{Tree}
 use Rattle.adf_format.specs.Tiles.{Tiles, cover}

@@ -2,9 +2,6 @@
 
 ghost use Rattle.tree_laws.specs.InPlace.{InPlaceLeaves, LabelIsDone};
 ghost use Rattle.tree_laws.specs.UnderWay.{EditBegins, EditTakes, EditGives, EditWrites, EditSwitches, EditEnds};
-ghost use Rattle.tree_laws.specs.Switches.{EditPuts, EditJoins, EditRenames};
-ghost use Rattle.tree_laws.specs.MoreSwitches.{EditLabels, EditReplaces, EditJoinsTable};
-ghost use Rattle.tree_laws.specs.Erasing.{EditErases};
 
 /// What is written into parts that stay where they are leaves all others; so a label that is written is an
 /// edit that is done.
@@ -22,23 +19,4 @@ pub fn edits_by_steps()
     ensures writes { EditWrites }
     ensures switches { EditSwitches }
     ensures ends { EditEnds }
-{}
-
-/// The switches of an edit under way: any step that leaves the heap, a node that joins, and a name.
-pub fn edits_switch()
-    ensures puts { EditPuts }
-    ensures joins { EditJoins }
-    ensures renames { EditRenames }
-{}
-
-/// More switches of an edit under way: a label, a longer table, and a node with a longer table.
-pub fn edits_switch_tables()
-    ensures labels { EditLabels }
-    ensures replaces { EditReplaces }
-    ensures joins { EditJoinsTable }
-{}
-
-/// The switch of a deletion under way.
-pub fn edits_erase()
-    ensures { EditErases }
 {}

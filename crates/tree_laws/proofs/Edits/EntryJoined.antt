@@ -1,5 +1,5 @@
 -- A node without data whose header stands in a range that was taken joins a parent: a case of a node that stands whole there.
-use Rattle.std.proofs.Common.{◌≡◌, ℕ, refl, arith, List, [], ◌∷◌, ◌++◌, ◌+◌}
+use Rattle.std.proofs.Common.{◌≡◌, ℕ, refl, arith, List, ◌∷◌, ◌++◌}
 use Rattle.adf_format.specs.declared.types.Extent.{Extent}
 use Rattle.adf_format.specs.declared.types.ExtentKind.{ExtentKind}
 use Rattle.adf_format.specs.Tiles.{cover}

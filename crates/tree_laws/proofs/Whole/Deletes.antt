@@ -1,5 +1,5 @@
 -- A node is deleted with all below it, whole.
-use Rattle.std.proofs.Common.{◌≡◌, ◌≢◌, ◌⊎◌, inl, inr, ℕ, zero, suc, refl, sym, ◌∙◌, ap, subst, arith, List, [], ◌∷◌, ◌++◌, length, get_or, ◌+◌, ◌-◌, ◌*◌, ◌<◌, ◌≤◌, Bool, true, false, not, if◌then◌else◌}
+use Rattle.std.proofs.Common.{◌≡◌, inl, ℕ, suc, refl, sym, ◌∙◌, ap, subst, arith, List, [], ◌∷◌, ◌++◌, length, get_or, ◌+◌, ◌-◌, ◌*◌, ◌<◌, ◌≤◌, Bool, true, false, not, if◌then◌else◌}
 use Rattle.std.proofs.lemmas.Option.{slice_get_within}
 use Rattle.std.proofs.lemmas.List.Elements.{Contains-append_left, Contains-append_right}
 use Rattle.std.specs.Prelude.{Option, Some, None, Ok, slice_get, is_some}
@@ -9,15 +9,15 @@ use Rattle.adf_format.specs.declared.types.ExtentKind.{ExtentKind}
 use Rattle.adf_format.specs.Fields.{field}
 use Rattle.adf_format.specs.Hex.{hex_text}
 use Rattle.adf_format.specs.Tree.{Tree, Node, IsAmong, is_live, children_at, parent_of, is_within, subtree, erased_from}
-use Rattle.adf_format.specs.Tiles.{cover, end_of}
-use Rattle.adf_format.specs.Placement.{Placement, NodeParts, TablePart, extent, parts_of, extents_of, node_extents, live_extents, table_extents}
+use Rattle.adf_format.specs.Tiles.{end_of}
+use Rattle.adf_format.specs.Placement.{Placement, NodeParts, TablePart, extent, parts_of, extents_of, node_extents, table_extents}
 use Rattle.adf_format.specs.LaysOut.{LaysOut}
 use Rattle.adf_format.specs.HeapRule.{after_gives}
 use Rattle.adf_format.proofs.HeapSteps.{cover-append}
 use Rattle.adf_model.specs.declared.tree.Edit.{Edit}
 use Rattle.adf_model.specs.declared.tree.NodeId.{NodeId}
 use Rattle.adf_model.specs.Edits.{apply, file_step}
-use Rattle.adf_model.specs.Untouched.{touched_extents, list_of, of_parent, most_children}
+use Rattle.adf_model.specs.Untouched.{touched_extents, list_of, of_parent}
 use Rattle.adf_model.proofs.Basics.{not_there, same_Some}
 use Rattle.adf_model.proofs.MoveKeeps.{among_live}
 use Rattle.adf_model.proofs.CreateStays.{node_of}

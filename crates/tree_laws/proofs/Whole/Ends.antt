@@ -1,8 +1,8 @@
 -- An edit on its way at whose end nothing is taken is done.
-use Rattle.std.proofs.Common.{◌≡◌, refl, sym, ap, subst, ℕ, List, [], ◌∷◌, ◌++◌}
+use Rattle.std.proofs.Common.{◌≡◌, refl, sym, ap, subst, List, [], ◌∷◌, ◌++◌}
 use Rattle.adf_format.specs.declared.types.Extent.{Extent}
-use Rattle.adf_model.specs.Untouched.{touched_extents, KeepsRest, KeepsTail}
-use Rattle.tree_laws.specs.Spared.{AreSpared, KeepsPlaces, MidEnds, IsEditWhole}
+use Rattle.adf_model.specs.Untouched.{touched_extents}
+use Rattle.tree_laws.specs.Spared.{AreSpared, KeepsPlaces, MidEnds}
 use Rattle.tree_laws.proofs.Holding.Steps.{to_layout}
 use Rattle.tree_laws.proofs.Whole.Rest.{rest_is_left}
 

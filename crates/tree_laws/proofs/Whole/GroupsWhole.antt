@@ -1,26 +1,24 @@
 -- A group of edits that goes on by one more leaves what a group leaves.
-use Rattle.std.proofs.Common.{◌≡◌, ◌⊎◌, inl, inr, ℕ, zero, suc, refl, sym, ◌∙◌, ap, subst, arith, List, [], ◌∷◌, ◌++◌, length, take, drop, ◌+◌, ◌-◌, ◌*◌, ◌<◌, ◌≤◌, Bool, le_refl}
+use Rattle.std.proofs.Common.{◌≡◌, ◌⊎◌, inl, inr, ℕ, suc, refl, sym, ◌∙◌, ap, subst, arith, List, [], ◌∷◌, ◌++◌, length, take, ◌+◌, ◌-◌, ◌*◌, ◌<◌, ◌≤◌, le_refl}
 use Rattle.std.proofs.Math.Nat.{mul-le-mul_left}
 use Rattle.std.proofs.lemmas.Bool.Decides.{leb_tells}
 use Rattle.std.proofs.lemmas.List.Elements.{Contains-append_left, Contains-append_right}
-use Rattle.std.specs.Prelude.{Some, Ok, slice_get}
+use Rattle.std.specs.Prelude.{Some, Ok}
 use Rattle.std.specs.List.{Contains}
 use Rattle.adf_format.specs.Fields.{field}
 use Rattle.adf_format.specs.Tree.{Tree, node_at, children_at}
 use Rattle.adf_format.specs.Parts.{dimension_digits}
 use Rattle.adf_format.specs.Placement.{Placement, NodeParts, TablePart, parts_of, live_extents}
-use Rattle.adf_format.specs.LaysOut.{LaysOut, entry_count}
-use Rattle.adf_format.specs.HeapRule.{place_edit}
+use Rattle.adf_format.specs.LaysOut.{entry_count}
 use Rattle.adf_format.proofs.FieldLaws.{inner_field}
 use Rattle.adf_model.specs.declared.tree.Edit.{Edit}
-use Rattle.adf_model.specs.Edits.{Work, created_by}
-use Rattle.adf_model.specs.Placing.{placed_as, place_group}
+use Rattle.adf_model.specs.Placing.{place_group}
 use Rattle.adf_model.specs.Untouched.{touched_extents, group_touched, group_shaped, most_in, most_dims, most_children, rank_of, KeepsRest, KeepsTail}
 use Rattle.adf_model.proofs.CreatedNodes.{there_inside}
 use Rattle.adf_model.proofs.Basics.{same_Some}
 use Rattle.tree_laws.specs.Groups.{tree_left, done_by}
-use Rattle.tree_laws.specs.Spared.{KeepsPlaces, IsEditWhole}
-use Rattle.tree_laws.specs.WholeGroups.{IsGroupWhole, WholeGroupBegins, WholeGroupGoesOn}
+use Rattle.tree_laws.specs.Spared.{KeepsPlaces}
+use Rattle.tree_laws.specs.WholeGroups.{WholeGroupBegins, WholeGroupGoesOn}
 use Rattle.tree_laws.proofs.Groups.GroupsGrow.{placement_is_left, touched_grow, shaped_grow}
 use Rattle.tree_laws.proofs.Groups.GroupLoop.{done_more, made_more, placed_more, left_before, wide_before}
 use Rattle.tree_laws.proofs.Leaving.TailsKept.{ends_rise}

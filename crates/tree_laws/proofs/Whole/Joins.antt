@@ -1,5 +1,5 @@
 -- What an edit that adds a child spares: of its parent the header and the table change, or a longer table takes the place of a full one.
-use Rattle.std.proofs.Common.{◌≡◌, ◌≢◌, ◌⊎◌, inl, inr, ℕ, zero, suc, refl, sym, ◌∙◌, ap, subst, arith, List, [], ◌∷◌, ◌++◌, length, length-append, get_or, ◌+◌, ◌-◌, ◌*◌, ◌<◌, ◌≤◌, Bool, true, false}
+use Rattle.std.proofs.Common.{◌≡◌, ◌⊎◌, inl, inr, ℕ, suc, refl, sym, ◌∙◌, ap, subst, arith, List, [], ◌∷◌, ◌++◌, length, length-append, get_or, ◌+◌, ◌*◌, ◌<◌, ◌≤◌, Bool, true, false}
 use Rattle.std.proofs.lemmas.Bool.Decides.{eqb_tells}
 use Rattle.std.proofs.lemmas.List.{length-set}
 use Rattle.std.specs.Prelude.{Option, Some, None, slice_set}
@@ -8,21 +8,21 @@ use Rattle.adf_format.specs.declared.types.Extent.{Extent}
 use Rattle.adf_format.specs.declared.types.ExtentKind.{ExtentKind}
 use Rattle.adf_format.specs.Tree.{Tree, Node, node_at, children_of, children_at}
 use Rattle.adf_format.specs.Parts.{node_length, table_length}
-use Rattle.adf_format.specs.Placement.{Placement, NodeParts, TablePart, Heap, extent, parts_of, extents_of, node_extents, table_extents}
-use Rattle.adf_format.specs.LaysOut.{LaysOut, HasTable, entry_count}
+use Rattle.adf_format.specs.Placement.{Placement, NodeParts, TablePart, Heap, extent, parts_of, table_extents}
+use Rattle.adf_format.specs.LaysOut.{LaysOut, entry_count}
 use Rattle.adf_format.specs.HeapRule.{parts_or_none}
 use Rattle.adf_model.specs.declared.tree.Edit.{Edit}
 use Rattle.adf_model.specs.Edits.{with_new, given_children}
 use Rattle.adf_model.specs.Untouched.{list_of, most_children}
-use Rattle.adf_model.proofs.Basics.{not_there, same_Some}
+use Rattle.adf_model.proofs.Basics.{same_Some}
 use Rattle.adf_model.proofs.CreateStays.{node_of, of_node}
 use Rattle.adf_model.proofs.CreatedNodes.{at_set, there_inside}
 use Rattle.tree_laws.specs.Parting.{KeepsParts}
-use Rattle.tree_laws.specs.Spared.{IsSpared, AreSpared, KeepsPlaces}
-use Rattle.tree_laws.specs.WholeEdits.{entry_ranges, longer_ranges, with_longer_table}
+use Rattle.tree_laws.specs.Spared.{AreSpared, KeepsPlaces}
+use Rattle.tree_laws.specs.WholeEdits.{with_longer_table}
 use Rattle.tree_laws.proofs.Edits.LabelSet.{set_here, set_there}
 use Rattle.tree_laws.proofs.Leaving.PartsKept.{front_of, same_header, longer_by, table_parts, parts_go_on}
-use Rattle.tree_laws.proofs.Whole.Spares.{none_spared, one_spared, both_spared, each_spared, header_spared, entries_spared, part_spared, dims_fit, header_of, list_part, table_own}
+use Rattle.tree_laws.proofs.Whole.Spares.{none_spared, one_spared, header_spared, entries_spared, part_spared, header_of, list_part, table_own}
 
 least : (wide : Bool) → 246 ≤ node_length wide
 least false = omega arith

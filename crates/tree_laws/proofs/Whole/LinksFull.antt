@@ -1,62 +1,48 @@
 -- A link joins a parent whose table is full, whole.
-use Rattle.std.proofs.Common.{◌≡◌, ◌≢◌, ◌⊎◌, inl, inr, ℕ, zero, suc, refl, sym, ◌∙◌, ap, subst, arith, List, [], ◌∷◌, ◌++◌, length, get_or, ◌+◌, ◌-◌, ◌*◌, ◌^◌, ◌/◌, ◌<◌, ◌≤◌, max, Bool, true, false, not, if◌then◌else◌}
-use Rattle.std.proofs.lemmas.Bool.Decides.{nat_tests}
+use Rattle.std.proofs.Common.{◌≡◌, ℕ, suc, refl, sym, ◌∙◌, ap, subst, arith, List, [], ◌∷◌, ◌++◌, length, ◌+◌, ◌-◌, ◌^◌, ◌<◌, ◌≤◌, Bool, true, if◌then◌else◌}
 use Rattle.std.proofs.lemmas.List.{length-set}
 use Rattle.std.specs.Prelude.{Option, Some, None, Result, Ok, slice_set, ◌==◌}
-use Rattle.std.specs.List.{Contains}
 use Rattle.adf_format.specs.declared.types.Extent.{Extent}
 use Rattle.adf_format.specs.declared.types.ExtentKind.{ExtentKind}
 use Rattle.adf_format.specs.Fields.{field, text_field}
 use Rattle.adf_format.specs.Hex.{hex_text}
 use Rattle.adf_format.specs.Pointer.{To, pointer_text}
-use Rattle.adf_format.specs.Names.{is_label}
-use Rattle.adf_format.specs.Records.{SubNodes, node_text, entry_text}
+use Rattle.adf_format.specs.Records.{SubNodes, entry_text}
 use Rattle.adf_format.specs.Spelled.{framed_text}
-use Rattle.adf_format.specs.Tree.{Tree, Node, IsTree, node_at, children_of, children_at, next_serial}
+use Rattle.adf_format.specs.Tree.{Tree, Node, IsTree, node_at, children_of, children_at}
 use Rattle.adf_format.specs.Tiles.{cover}
 use Rattle.adf_format.specs.Parts.{node_length, table_length}
-use Rattle.adf_format.specs.Placement.{Placement, NodeParts, TablePart, Heap, extent, parts_of, table_extents, node_extents}
+use Rattle.adf_format.specs.Placement.{Placement, NodeParts, Heap, extent, parts_of, table_extents, node_extents}
 use Rattle.adf_format.specs.LaysOut.{LaysOut, entry_count}
-use Rattle.adf_format.specs.HeapRule.{Placed, LimitReached, Taken, GrownTable, heap_take, take_bytes, grow_table, grown_entries, with_table, with_parts, no_parts, parts_at, parts_or_none, with_new_parts, after_gives, place_edit, ◌>>=◌, chunk_length_for}
+use Rattle.adf_format.specs.HeapRule.{Placed, LimitReached, Taken, heap_take, take_bytes, grown_entries, with_table, with_parts, no_parts, parts_at, parts_or_none, with_new_parts, after_gives, place_edit, ◌>>=◌, chunk_length_for}
 use Rattle.adf_format.proofs.HeapSteps.{cover-append}
-use Rattle.adf_model.specs.declared.error.AdfError.{AdfError}
 use Rattle.adf_model.specs.declared.tree.Edit.{Edit}
 use Rattle.adf_model.specs.declared.tree.NodeId.{NodeId}
-use Rattle.adf_model.specs.Creation.{empty_node, used_entries, unused_entries}
-use Rattle.adf_model.specs.Edits.{apply, file_step, with_new, new_node, create_tests, new_link, IsReached}
-use Rattle.adf_model.specs.Untouched.{touched_extents, most_children}
-use Rattle.adf_model.proofs.Basics.{same_Ok, passed, not_false}
-use Rattle.std.proofs.lemmas.List.Elements.{Contains-append_cases}
+use Rattle.adf_model.specs.Creation.{used_entries, unused_entries}
+use Rattle.adf_model.specs.Edits.{apply, file_step, with_new, new_link, IsReached}
+use Rattle.adf_model.specs.Untouched.{touched_extents}
 use Rattle.adf_format.specs.Changes.{Writes}
-use Rattle.adf_model.proofs.CreateStays.{none_in}
-use Rattle.adf_model.proofs.CreatedNodes.{there_inside, last_of, at_new, at_set}
-use Rattle.adf_model.proofs.EditsKeep.{apply_keeps}
+use Rattle.adf_model.proofs.CreatedNodes.{there_inside, at_new, at_set}
 use Rattle.tree_laws.specs.Holding.{Holds}
 use Rattle.tree_laws.specs.MidEdit.{IsMidEdit, Puts, GivesAll}
-use Rattle.tree_laws.specs.Plans.{Plan, plan_edit, plan_new, end_of_plan}
-use Rattle.tree_laws.specs.Spared.{AreSpared, KeepsPlaces, IsEditWhole}
-use Rattle.tree_laws.specs.WholeEdits.{entry_ranges, longer_ranges, with_longer_table, LinkIsWhole, LinkIsWholeFull}
+use Rattle.tree_laws.specs.Spared.{AreSpared, IsEditWhole}
+use Rattle.tree_laws.specs.WholeEdits.{longer_ranges, with_longer_table, LinkIsWholeFull}
 use Rattle.tree_laws.proofs.Holding.Steps.{from_layout}
 use Rattle.tree_laws.proofs.Data.DataSwitched.{long_list}
-use Rattle.tree_laws.proofs.Edits.LabelDone.{short_label}
-use Rattle.tree_laws.proofs.Edits.EntryJoined.{entry_joins, tables_join}
 use Rattle.tree_laws.proofs.Edits.EditsPlaced.{front_get, set_front, as_many, is_grown, sound, held, put, goes_on, begins}
-use Rattle.tree_laws.proofs.Edits.PlanNew.{plans_create}
 use Rattle.tree_laws.proofs.Groups.GroupsGrow.{step_reaches}
 use Rattle.tree_laws.proofs.Tables.ListsChanged.{name_short}
-use Rattle.tree_laws.proofs.Tables.TableReplaced.{few_dims, node_too}
+use Rattle.tree_laws.proofs.Tables.TableReplaced.{node_too}
 use Rattle.tree_laws.proofs.Whole.Mid.{mid_switches, mid_gives}
 use Rattle.tree_laws.proofs.Whole.Ends.{mid_ends}
-use Rattle.tree_laws.proofs.Whole.Texts.{puts_two}
-use Rattle.tree_laws.proofs.Whole.Spares.{both_spared, header_of, list_part}
-use Rattle.tree_laws.proofs.Whole.Joins.{tables_more, tables_longer_more, one_more_part, table_and_more, more_places, fields_spared, entry_spared, old_table_spared, one_child_more, list_is, list_has_header, list_has_table}
+use Rattle.tree_laws.proofs.Whole.Spares.{both_spared}
+use Rattle.tree_laws.proofs.Whole.Joins.{tables_longer_more, table_and_more, more_places, fields_spared, old_table_spared, list_has_header, list_has_table}
 use Rattle.adf_format.specs.Links.{link_text}
 use Rattle.tree_laws.specs.EditsPlaced.{LinkStands}
 use Rattle.tree_laws.specs.NodeJoin.{with_parts_of_new, link_parts}
 use Rattle.tree_laws.proofs.Holding.GiftsFolded.{taken_in_any_order}
-use Rattle.tree_laws.proofs.Edits.NodeJoined.{node_joins}
 use Rattle.tree_laws.proofs.Edits.NodeWithTable.{node_joins_table}
-use Rattle.tree_laws.proofs.Whole.Creates.{differs, agrees, more_entries, few_entries, front_in}
+use Rattle.tree_laws.proofs.Whole.Creates.{agrees, more_entries, few_entries, front_in}
 
 module _ (limit : ℕ) (writable : Bool) (old a middle new : List ℕ) (tree after : Tree) (p : Placement) (between again heap : Heap) (hk tk ck : ExtentKind) (at : NodeId) (name file path : List ℕ) (header table place entries : ℕ) (from : NodeParts)
     (l : LaysOut old tree p) (made : file_step writable tree (Edit.Link at name file path) ≡ Ok after) (full : entry_count from.table ≡ length (children_at tree at.serial)) (many : entries ≡ grown_entries (length (children_at tree at.serial)))

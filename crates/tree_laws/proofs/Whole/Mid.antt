@@ -1,18 +1,15 @@
 -- An edit on its way, step by step: what was written lies in what it may write.
-use Rattle.std.proofs.Common.{◌≡◌, ◌⊎◌, inl, inr, ℕ, zero, suc, refl, sym, ◌∙◌, ap, subst, arith, List, [], ◌∷◌, ◌++◌, length, get_or, ◌+◌, ◌-◌, ◌<◌, ◌≤◌, le_refl}
+use Rattle.std.proofs.Common.{◌≡◌, inl, inr, ℕ, zero, suc, refl, sym, ◌∙◌, ap, subst, arith, List, [], ◌∷◌, ◌++◌, length, ◌+◌, ◌-◌, ◌<◌, ◌≤◌, le_refl}
 use Rattle.std.proofs.lemmas.Bool.Decides.{leb_tells}
 use Rattle.std.proofs.lemmas.Option.{slice_get-get_or}
-use Rattle.std.specs.Prelude.{Some, slice_get}
-use Rattle.std.specs.List.{AllByRecursion}
+use Rattle.std.specs.Prelude.{Some}
 use Rattle.adf_format.specs.declared.types.Extent.{Extent}
-use Rattle.adf_format.specs.declared.types.ExtentKind.{ExtentKind}
 use Rattle.adf_format.specs.Changes.{heap_fields}
 use Rattle.adf_format.specs.HeapBytes.{ChangesOnly}
 use Rattle.adf_format.specs.Tree.{Tree}
-use Rattle.adf_format.specs.Tiles.{Tiles, cover}
+use Rattle.adf_format.specs.Tiles.{cover}
 use Rattle.adf_format.specs.Placement.{Placement, Heap, extent, live_extents, head_extents}
-use Rattle.adf_format.specs.LaysOut.{LaysOut}
-use Rattle.adf_format.specs.HeapRule.{heap_give, give_all, after_gives}
+use Rattle.adf_format.specs.HeapRule.{heap_give}
 use Rattle.adf_format.proofs.HeapLaws.{in_range, join_range}
 use Rattle.adf_format.proofs.HeapSteps.{cover-append}
 use Rattle.adf_model.specs.NodeData.{grown_range}

@@ -1,8 +1,8 @@
 -- A node is moved where its new parent has an unused entry, whole.
-use Rattle.std.proofs.Common.{◌≡◌, ◌≢◌, ◌⊎◌, inl, inr, ℕ, zero, suc, refl, sym, ◌∙◌, ap, subst, arith, List, [], ◌∷◌, ◌++◌, length, length-append, ◌+◌, ◌-◌, ◌*◌, ◌<◌, ◌≤◌, Bool, true, false}
+use Rattle.std.proofs.Common.{◌≡◌, ◌≢◌, ℕ, suc, refl, sym, ◌∙◌, ap, subst, arith, List, [], ◌∷◌, ◌++◌, length, length-append, ◌+◌, ◌-◌, ◌*◌, ◌<◌, ◌≤◌, Bool, false}
 use Rattle.std.proofs.lemmas.Option.{slice_get_within}
 use Rattle.std.proofs.lemmas.List.Elements.{Contains-append_left, Contains-append_right}
-use Rattle.std.specs.Prelude.{Option, Some, None, Ok, slice_get}
+use Rattle.std.specs.Prelude.{Option, Some, Ok, slice_get}
 use Rattle.std.specs.List.{Contains}
 use Rattle.adf_format.specs.declared.types.Extent.{Extent}
 use Rattle.adf_format.specs.declared.types.ExtentKind.{ExtentKind}
@@ -11,9 +11,7 @@ use Rattle.adf_format.specs.Hex.{hex_text}
 use Rattle.adf_format.specs.Pointer.{To}
 use Rattle.adf_format.specs.Records.{entry_text}
 use Rattle.adf_format.specs.HeapBytes.{ChangesOnly}
-use Rattle.adf_format.specs.Tree.{Tree, Node, IsTree, IsAmong, is_among, node_at, children_of, children_at, name_at, parent_of}
-use Rattle.adf_format.specs.Tiles.{cover}
-use Rattle.adf_format.specs.Parts.{node_length, table_length}
+use Rattle.adf_format.specs.Tree.{Tree, Node, IsTree, is_among, children_of, children_at, name_at, parent_of}
 use Rattle.adf_format.specs.Placement.{Placement, NodeParts, TablePart, extent, parts_of, table_extents}
 use Rattle.adf_format.specs.LaysOut.{LaysOut, HasTable, entry_count}
 use Rattle.adf_format.specs.HeapRule.{Placed, place_edit}
@@ -21,15 +19,13 @@ use Rattle.adf_format.proofs.HeapSteps.{cover-append}
 use Rattle.adf_model.specs.declared.tree.Edit.{Edit}
 use Rattle.adf_model.specs.declared.tree.NodeId.{NodeId}
 use Rattle.adf_model.specs.Edits.{IsReached, apply, file_step, other_children}
-use Rattle.adf_model.specs.Untouched.{touched_extents, list_of, of_parent, most_children}
+use Rattle.adf_model.specs.Untouched.{touched_extents, list_of, of_parent}
 use Rattle.adf_model.proofs.Basics.{false_of}
 use Rattle.adf_model.proofs.CreatedNodes.{among_get}
 use Rattle.tree_laws.specs.Holding.{Holds}
 use Rattle.tree_laws.specs.MidEdit.{IsMidEdit, Puts}
-use Rattle.tree_laws.specs.Moving.{IsMoved}
 use Rattle.tree_laws.specs.Plans.{end_of_plan}
 use Rattle.tree_laws.specs.Spared.{AreSpared, IsEditWhole}
-use Rattle.tree_laws.specs.Tables.{ClosesUp}
 use Rattle.tree_laws.specs.WholeEdits.{closing_ranges, entry_ranges, MoveIsWhole, MoveLastIsWhole}
 use Rattle.tree_laws.proofs.Holding.Steps.{from_layout}
 use Rattle.tree_laws.proofs.Edits.Plans.{plans_others}

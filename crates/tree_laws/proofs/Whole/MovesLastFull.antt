@@ -1,50 +1,40 @@
 -- A node is moved to the end of its own list, whose table was full, whole.
-use Rattle.std.proofs.Common.{◌≡◌, ◌≢◌, ◌⊎◌, inl, inr, ℕ, zero, suc, refl, sym, ◌∙◌, ap, subst, arith, List, [], ◌∷◌, ◌++◌, length, length-append, ◌+◌, ◌-◌, ◌*◌, ◌<◌, ◌≤◌, Bool, true, false}
+use Rattle.std.proofs.Common.{◌≡◌, ℕ, suc, refl, ◌∙◌, ap, arith, List, [], ◌∷◌, ◌++◌, length, ◌+◌, ◌-◌, ◌*◌, ◌<◌, Bool}
 use Rattle.std.proofs.lemmas.Option.{slice_get_within}
-use Rattle.std.proofs.lemmas.List.Elements.{Contains-append_left, Contains-append_right}
-use Rattle.std.specs.Prelude.{Option, Some, None, Ok, slice_get}
+use Rattle.std.specs.Prelude.{Some, None, Ok, slice_get}
 use Rattle.std.specs.List.{Contains}
 use Rattle.adf_format.specs.declared.types.Extent.{Extent}
 use Rattle.adf_format.specs.declared.types.ExtentKind.{ExtentKind}
 use Rattle.adf_format.specs.Fields.{field, text_field}
-use Rattle.adf_format.specs.Hex.{hex_text}
 use Rattle.adf_format.specs.Pointer.{To}
 use Rattle.adf_format.specs.Records.{entry_text}
 use Rattle.adf_format.specs.HeapBytes.{ChangesOnly}
-use Rattle.adf_format.specs.Tree.{Tree, Node, IsTree, IsAmong, is_among, node_at, children_of, children_at, name_at, parent_of}
-use Rattle.adf_format.specs.Tiles.{cover}
-use Rattle.adf_format.specs.Parts.{node_length, table_length}
-use Rattle.adf_format.specs.Placement.{Placement, NodeParts, TablePart, Heap, extent, parts_of, table_extents}
-use Rattle.adf_format.specs.LaysOut.{LaysOut, HasTable, entry_count}
+use Rattle.adf_format.specs.Tree.{Tree, children_at, name_at, parent_of}
+use Rattle.adf_format.specs.Parts.{table_length}
+use Rattle.adf_format.specs.Placement.{Placement, NodeParts, Heap, extent, parts_of, table_extents}
+use Rattle.adf_format.specs.LaysOut.{LaysOut, entry_count}
 use Rattle.adf_format.specs.HeapRule.{Placed, heap_take, grown_entries, after_gives, place_edit}
 use Rattle.adf_format.proofs.HeapSteps.{cover-append}
 use Rattle.adf_model.specs.declared.tree.Edit.{Edit}
 use Rattle.adf_model.specs.declared.tree.NodeId.{NodeId}
-use Rattle.adf_model.specs.Edits.{IsReached, apply, file_step, other_children}
-use Rattle.adf_model.specs.Untouched.{touched_extents, list_of, of_parent, most_children}
-use Rattle.adf_model.proofs.Basics.{false_of}
-use Rattle.adf_model.proofs.CreatedNodes.{among_get}
+use Rattle.adf_model.specs.Edits.{apply, file_step}
+use Rattle.adf_model.specs.Untouched.{touched_extents}
 use Rattle.tree_laws.specs.Holding.{Holds}
 use Rattle.tree_laws.specs.MidEdit.{IsMidEdit, Puts, GivesAll}
 use Rattle.tree_laws.specs.Moving.{IsReplaced, with_longer}
 use Rattle.tree_laws.specs.Plans.{end_of_plan}
 use Rattle.tree_laws.specs.Spared.{AreSpared, IsEditWhole}
-use Rattle.tree_laws.specs.Tables.{ClosesUp}
-use Rattle.tree_laws.specs.WholeEdits.{closing_ranges, longer_ranges, with_longer_table, MoveIsWholeFull, MoveLastIsWholeFull}
+use Rattle.tree_laws.specs.WholeEdits.{longer_ranges, with_longer_table, MoveLastIsWholeFull}
 use Rattle.tree_laws.proofs.Holding.Steps.{from_layout}
 use Rattle.tree_laws.proofs.Edits.Plans.{plans_others}
 use Rattle.tree_laws.proofs.Groups.GroupsGrow.{step_reaches}
-use Rattle.tree_laws.proofs.Moves.MovedNodes.{others_of_none}
-use Rattle.tree_laws.proofs.Moves.MovedTree.{moved_in_its_tree}
-use Rattle.tree_laws.proofs.Moves.MovesWhole.{moves_over_longer, moves_last_longer}
+use Rattle.tree_laws.proofs.Moves.MovesWhole.{moves_last_longer}
 use Rattle.tree_laws.proofs.Moves.PlanMove.{plans_move}
-use Rattle.tree_laws.proofs.Tables.TableReplaced.{node_too}
 use Rattle.tree_laws.proofs.Whole.Mid.{mid_switches, mid_gives}
 use Rattle.tree_laws.proofs.Whole.Ends.{mid_ends}
-use Rattle.tree_laws.proofs.Whole.Texts.{puts_two}
-use Rattle.tree_laws.proofs.Whole.Spares.{both_spared, header_of, list_part}
-use Rattle.tree_laws.proofs.Whole.Joins.{any_heap, tables_longer, more_places, fields_spared, entry_spared, old_table_spared, list_has_header, list_has_table}
-use Rattle.tree_laws.proofs.Whole.Moves.{only_joined, table_in_list, in_first, in_second, has_fit}
+use Rattle.tree_laws.proofs.Whole.Spares.{both_spared, header_of}
+use Rattle.tree_laws.proofs.Whole.Joins.{any_heap, tables_longer, more_places, fields_spared, old_table_spared, list_has_header, list_has_table}
+use Rattle.tree_laws.proofs.Whole.Moves.{only_joined, in_second}
 use Rattle.tree_laws.proofs.Whole.Creates.{more_entries}
 use Rattle.tree_laws.proofs.Edits.LabelSet.{set_here}
 use Rattle.tree_laws.proofs.Data.DataSwitched.{long_list}

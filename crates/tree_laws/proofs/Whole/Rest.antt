@@ -1,7 +1,7 @@
 -- What is written in spared ranges, in gaps and behind the end leaves all else.
-use Rattle.std.proofs.Common.{◌≡◌, ◌≢◌, ◌⊎◌, inl, inr, ℕ, zero, suc, refl, sym, ◌∙◌, ap, subst, arith, List, [], ◌∷◌, ◌++◌, length, ◌+◌, ◌-◌, ◌*◌, ◌<◌, ◌≤◌, Bool, true, false}
+use Rattle.std.proofs.Common.{◌≡◌, ◌⊎◌, inl, inr, ℕ, refl, sym, ◌∙◌, ap, subst, arith, List, [], ◌∷◌, ◌++◌, length, ◌+◌, ◌-◌, ◌*◌, ◌<◌, ◌≤◌}
 use Rattle.std.proofs.lemmas.Bool.Decides.{leb_tells, eqb_tells}
-use Rattle.std.specs.Prelude.{Option, Some, Ok, slice_get}
+use Rattle.std.specs.Prelude.{Option, Some, slice_get}
 use Rattle.std.specs.List.{Contains}
 use Rattle.adf_format.specs.declared.types.Extent.{Extent}
 use Rattle.adf_format.specs.declared.types.ExtentKind.{ExtentKind}
@@ -18,7 +18,7 @@ use Rattle.adf_format.proofs.HeapSteps.{cover-append}
 use Rattle.adf_format.proofs.FrameLaws.{field_kept}
 use Rattle.adf_format.proofs.LayoutLaws.{one_of}
 use Rattle.adf_model.specs.declared.tree.Edit.{Edit}
-use Rattle.adf_model.specs.Untouched.{KeepsRest, KeepsTail, group_touched, group_shaped, most_dims, most_children}
+use Rattle.adf_model.specs.Untouched.{KeepsRest, group_touched, most_dims, most_children}
 use Rattle.adf_model.proofs.Basics.{same_Some}
 use Rattle.adf_model.proofs.CreatedNodes.{there_inside}
 use Rattle.adf_model.proofs.ManyWrites.{less_or}

@@ -1,5 +1,5 @@
 -- The shape and the data of a node are set, whole.
-use Rattle.std.proofs.Common.{◌≡◌, ◌≢◌, ◌⊎◌, inl, inr, ℕ, zero, suc, refl, sym, ◌∙◌, ap, subst, arith, List, [], ◌∷◌, ◌++◌, length, get_or, ◌+◌, ◌-◌, ◌*◌, ◌<◌, ◌≤◌, Bool, true, false}
+use Rattle.std.proofs.Common.{◌≡◌, ◌⊎◌, inl, inr, ℕ, refl, sym, ◌∙◌, ap, subst, arith, List, [], ◌∷◌, ◌++◌, length, get_or, ◌+◌, ◌*◌, ◌<◌, ◌≤◌, Bool, true, false}
 use Rattle.std.proofs.lemmas.Bool.Decides.{eqb_tells}
 use Rattle.std.proofs.lemmas.List.{length-set}
 use Rattle.std.proofs.lemmas.List.Elements.{Contains-append_left, Contains-append_right, Contains-append_cases}
@@ -9,14 +9,13 @@ use Rattle.adf_format.specs.declared.types.Extent.{Extent}
 use Rattle.adf_format.specs.declared.types.ExtentKind.{ExtentKind}
 use Rattle.adf_format.specs.HeapBytes.{ChangesOnly}
 use Rattle.adf_format.specs.Tree.{Tree, Node, IsTree, node_at}
-use Rattle.adf_format.specs.Tiles.{cover, end_of}
+use Rattle.adf_format.specs.Tiles.{cover}
 use Rattle.adf_format.specs.Parts.{node_length, dimension_digits, chunk_count_at}
-use Rattle.adf_format.specs.Placement.{Placement, NodeParts, TablePart, ChunkPart, Heap, extent, parts_of, extents_of, node_extents, live_extents, table_extents, chunk_table_extents, chunk_extents}
+use Rattle.adf_format.specs.Placement.{Placement, NodeParts, ChunkPart, Heap, extent, parts_of, node_extents, live_extents, chunk_table_extents, chunk_extents}
 use Rattle.adf_format.specs.LaysOut.{LaysOut}
-use Rattle.adf_format.specs.HeapRule.{Placed, data_extents, with_parts, after_gives, place_edit, parts_or_none}
+use Rattle.adf_format.specs.HeapRule.{data_extents, with_parts, after_gives, place_edit, parts_or_none}
 use Rattle.adf_format.proofs.HeapSteps.{cover-append}
 use Rattle.adf_model.specs.declared.tree.Edit.{Edit}
-use Rattle.adf_model.specs.declared.tree.NodeId.{NodeId}
 use Rattle.adf_model.specs.Edits.{file_step, with_node, with_shape, with_part}
 use Rattle.adf_model.specs.Placing.{placed_as}
 use Rattle.adf_model.specs.Shapes.{dims_of}
@@ -27,9 +26,8 @@ use Rattle.adf_model.proofs.CreatedNodes.{there_inside}
 use Rattle.tree_laws.specs.DataSwitch.{Switches, with_data}
 use Rattle.tree_laws.specs.Holding.{Holds}
 use Rattle.tree_laws.specs.MidEdit.{IsMidEdit, GivesAll}
-use Rattle.tree_laws.specs.Spared.{IsSpared, AreSpared, KeepsPlaces, IsEditWhole}
+use Rattle.tree_laws.specs.Spared.{AreSpared, KeepsPlaces, IsEditWhole}
 use Rattle.tree_laws.specs.WholeData.{data_ranges, shape_ranges, SetDimsIsWhole, PutAllIsWhole, PutPartIsWhole}
-use Rattle.tree_laws.proofs.Holding.Steps.{from_layout}
 use Rattle.tree_laws.proofs.Data.DataApplied.{set_dims_applies, put_all_applies, put_part_applies}
 use Rattle.tree_laws.proofs.Data.DataSwitched.{data_switches}
 use Rattle.tree_laws.proofs.Edits.LabelSet.{set_here, set_there}
@@ -37,7 +35,7 @@ use Rattle.tree_laws.proofs.Groups.GroupsGrow.{step_reaches}
 use Rattle.tree_laws.proofs.Leaving.ListsLeave.{list_or_data, data_in_node, list_extents, only_one}
 use Rattle.tree_laws.proofs.Whole.Mid.{mid_switches, mid_gives}
 use Rattle.tree_laws.proofs.Whole.Ends.{mid_ends}
-use Rattle.tree_laws.proofs.Whole.Spares.{one_spared, both_spared, each_spared, header_spared, shape_spared, part_spared, header_of, list_part, table_own}
+use Rattle.tree_laws.proofs.Whole.Spares.{one_spared, both_spared, each_spared, header_spared, shape_spared, part_spared, header_of}
 
 -- a part of the data is no header and no table of children
 data_kind : (from : NodeParts) (e : Extent) → Contains (data_extents from) e → (e.kind ≡ ExtentKind.ChunkTable) ⊎ (e.kind ≡ ExtentKind.DataChunk)

@@ -1,8 +1,8 @@
 -- Bytes of a header, of a table and of other parts of one node, as an edit may write them.
-use Rattle.std.proofs.Common.{◌≡◌, ◌≢◌, ◌⊎◌, inl, inr, ℕ, zero, suc, refl, sym, ◌∙◌, ap, subst, arith, List, [], ◌∷◌, ◌++◌, length, get_or, ◌+◌, ◌-◌, ◌*◌, ◌<◌, ◌≤◌, Bool, true, false}
+use Rattle.std.proofs.Common.{◌≡◌, ◌⊎◌, inl, inr, ℕ, refl, sym, ◌∙◌, ap, subst, arith, List, [], ◌∷◌, ◌++◌, length, ◌+◌, ◌-◌, ◌*◌, ◌<◌, ◌≤◌, Bool, true, false}
 use Rattle.std.proofs.lemmas.Bool.Decides.{leb_tells}
 use Rattle.std.proofs.Math.Nat.{mul-le-mul_left}
-use Rattle.std.proofs.lemmas.List.Elements.{Contains-append_left, Contains-append_right, Contains-append_cases}
+use Rattle.std.proofs.lemmas.List.Elements.{Contains-append_left, Contains-append_right}
 use Rattle.std.specs.Prelude.{Option, Some, None}
 use Rattle.std.specs.List.{Contains}
 use Rattle.adf_format.specs.declared.types.Extent.{Extent}
@@ -10,7 +10,7 @@ use Rattle.adf_format.specs.declared.types.ExtentKind.{ExtentKind}
 use Rattle.adf_format.specs.Tree.{Tree}
 use Rattle.adf_format.specs.Tiles.{cover, end_of}
 use Rattle.adf_format.specs.Parts.{node_length, table_length, dimension_digits}
-use Rattle.adf_format.specs.Placement.{Placement, NodeParts, TablePart, extent, parts_of, node_extents, live_extents, table_extents, chunk_table_extents, chunk_extents}
+use Rattle.adf_format.specs.Placement.{Placement, NodeParts, TablePart, extent, parts_of, node_extents, table_extents, chunk_table_extents, chunk_extents}
 use Rattle.adf_format.specs.LaysOut.{LaysOut}
 use Rattle.adf_format.proofs.HeapSteps.{cover-append}
 use Rattle.adf_format.proofs.LayoutLaws.{one_of}
@@ -18,7 +18,7 @@ use Rattle.adf_model.specs.declared.tree.Edit.{Edit}
 use Rattle.adf_model.specs.Untouched.{group_shaped, most_dims, most_children}
 use Rattle.adf_model.proofs.Basics.{not_there, same_Some}
 use Rattle.adf_model.proofs.ManyWrites.{less_or}
-use Rattle.tree_laws.specs.Spared.{IsOutside, SparesRest, IsSpared, AreSpared}
+use Rattle.tree_laws.specs.Spared.{IsOutside, IsSpared, AreSpared}
 use Rattle.tree_laws.proofs.Holding.Steps.{from_layout, once}
 use Rattle.tree_laws.proofs.Edits.LabelDone.{range_holds}
 use Rattle.tree_laws.proofs.Whole.Rest.{one_extent}

@@ -1,5 +1,5 @@
 -- Labels and names, whole.
-use Rattle.std.proofs.Common.{◌≡◌, ◌≢◌, ◌⊎◌, inl, inr, ℕ, zero, suc, refl, sym, ◌∙◌, ap, subst, arith, List, [], ◌∷◌, ◌++◌, length, get_or, ◌+◌, ◌-◌, ◌*◌, ◌<◌, ◌≤◌, Bool, true, false, not}
+use Rattle.std.proofs.Common.{◌≡◌, ◌≢◌, inl, ℕ, suc, refl, sym, ◌∙◌, ap, subst, arith, List, [], ◌∷◌, length, ◌+◌, ◌*◌, ◌<◌, ◌≤◌, Bool, true, false, not}
 use Rattle.std.proofs.lemmas.Option.{slice_get_within}
 use Rattle.std.specs.Prelude.{Option, Some, None, Ok, slice_get}
 use Rattle.std.specs.List.{Contains}
@@ -10,12 +10,10 @@ use Rattle.adf_format.specs.Pointer.{To}
 use Rattle.adf_format.specs.Names.{is_label, is_name}
 use Rattle.adf_format.specs.Records.{entry_text}
 use Rattle.adf_format.specs.Tree.{Tree, Node, IsTree, IsAmong, node_at, children_of, children_at, parent_of, is_within}
-use Rattle.adf_format.specs.Tiles.{cover}
 use Rattle.adf_format.specs.Parts.{node_length, table_length}
 use Rattle.adf_format.specs.Placement.{Placement, NodeParts, TablePart, parts_of, extent, table_extents}
 use Rattle.adf_format.specs.LaysOut.{LaysOut, HasTable}
 use Rattle.adf_format.specs.HeapRule.{parts_or_none}
-use Rattle.adf_format.proofs.HeapSteps.{cover-append}
 use Rattle.adf_model.specs.declared.error.AdfError.{AdfError}
 use Rattle.adf_model.specs.declared.tree.Edit.{Edit}
 use Rattle.adf_model.specs.declared.tree.NodeId.{NodeId}
@@ -23,7 +21,7 @@ use Rattle.adf_model.specs.Edits.{with_node, has_named, other_children, file_ste
 use Rattle.adf_model.specs.Untouched.{touched_extents, header_extent, table_of, of_parent}
 use Rattle.adf_model.proofs.Basics.{not_true, same_Some, same_Ok, passed, found}
 use Rattle.adf_model.proofs.EditsKeep.{apply_keeps}
-use Rattle.adf_model.proofs.AncestorLemmas.{within_itself, parent_outside, live_with_child}
+use Rattle.adf_model.proofs.AncestorLemmas.{within_itself, parent_outside}
 use Rattle.adf_model.proofs.CreatedNodes.{among_get, there_inside}
 use Rattle.tree_laws.specs.Holding.{Holds}
 use Rattle.tree_laws.specs.MidEdit.{Puts, IsMidEdit}
@@ -39,7 +37,7 @@ use Rattle.tree_laws.proofs.Tables.ListClosed.{entry_near}
 use Rattle.tree_laws.proofs.Tables.ListsChanged.{name_short}
 use Rattle.tree_laws.proofs.Tables.TableReplaced.{few_dims, node_too}
 use Rattle.tree_laws.proofs.Whole.Mid.{mid_begins, mid_switches}
-use Rattle.tree_laws.proofs.Whole.Spares.{one_spared, both_spared, header_spared, entries_spared, dims_fit, header_of, list_part}
+use Rattle.tree_laws.proofs.Whole.Spares.{one_spared, both_spared, header_spared, entries_spared, header_of, list_part}
 use Rattle.tree_laws.proofs.Whole.Ends.{mid_ends}
 use Rattle.adf_model.proofs.Basics.{not_false}
 
