@@ -3,6 +3,4 @@ pub mod DataSwitched
 pub mod DataFields
 pub mod ShapeSet
 pub mod DataEnded
-pub mod DataLeft
-pub mod DataPutThere
 pub mod DataApplied

@@ -3,4 +3,3 @@ pub mod NodesLeft
 pub mod SubtreeWalked
 pub mod DeletedTree
 pub mod SerialOrdered
-pub mod DeletionFollowed

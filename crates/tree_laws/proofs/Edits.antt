@@ -10,4 +10,3 @@ pub mod LinkFull
 pub mod EditsPlaced
 pub mod Plans
 pub mod PlanNew
-pub mod UnderWay

@@ -5,7 +5,5 @@ pub mod ListLeaves
 pub mod ListsLeave
 pub mod TableLeaves
 pub mod PartsKept
-pub mod WritesLeft
-pub mod InPlaceLeft
 pub mod PlacedEnds
 pub mod TailsKept

@@ -10,12 +10,9 @@ pub mod DataSwitch
 pub mod DataEnds
 pub mod LeavingSteps
 pub mod EditsPlaced
-pub mod DataLeaving
 pub mod Deletions
 pub mod SerialOrder
-pub mod DataPut
 pub mod DataApply
-pub mod DeletionWhole
 pub mod Moving
 pub mod Groups
 pub mod Needs
@@ -23,9 +20,7 @@ pub mod GroupLeaving
 pub mod FileGroups
 pub mod Tails
 pub mod GroupLoop
-pub mod InPlace
 pub mod FileLoop
-pub mod UnderWay
 pub mod Parting
 pub mod Reading
 pub mod MidEdit

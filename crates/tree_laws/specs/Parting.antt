@@ -1,15 +1,12 @@
 -- Which parts a step writes, and which it keeps: what it leaves follows from both.
-use Rattle.std.specs.Prelude.{◌≡◌, ◌⊎◌, ℕ, ◌+◌, ◌<◌, ◌≤◌, Bool, not, List, [], ◌∷◌, ◌++◌, length, slice_set, Option, Some}
+use Rattle.std.specs.Prelude.{◌≡◌, ◌⊎◌, ℕ, ◌+◌, ◌<◌, ◌≤◌, Bool, not, List, [], ◌++◌, length, slice_set, Option, Some}
 use Rattle.std.specs.List.{Contains, flat_map}
 use Rattle.adf_format.specs.declared.types.Extent.{Extent}
 use Rattle.adf_format.specs.declared.types.ExtentKind.{ExtentKind}
-use Rattle.adf_format.specs.Tree.{Tree, erased_from}
+use Rattle.adf_format.specs.Tree.{erased_from}
 use Rattle.adf_format.specs.Tiles.{cover, end_of}
-use Rattle.adf_format.specs.Parts.{node_length, table_length}
-use Rattle.adf_format.specs.Placement.{Placement, NodeParts, TablePart, Heap, parts_of, extent, extents_of, table_extents, live_extents}
+use Rattle.adf_format.specs.Placement.{Placement, NodeParts, TablePart, Heap, parts_of, extents_of, table_extents, live_extents}
 use Rattle.adf_format.specs.HeapRule.{with_new_parts}
-use Rattle.tree_laws.specs.Holding.{Holds, ChangesIn}
-use Rattle.tree_laws.specs.Leaving.{Leaves}
 
 -- each byte of some ranges was taken, or lies in a live part that is excepted, and in a header before its dimensions
 abbrev pub InParts : List Extent → List Extent → Bool → Placement → List Extent → Type 0
@@ -26,37 +23,6 @@ pub record KeepsParts (except : List Extent) (wide : Bool) (p q : Placement) : T
   pub drawn : length p.parts ≤ length q.parts
   pub before : (serial : ℕ) (to : NodeParts) → serial < length p.parts → parts_of q serial ≡ Some to
       → (from : NodeParts) × (parts_of p serial ≡ Some from)
-
--- a step that writes such ranges and keeps such parts leaves all but what is excepted
-abbrev pub WritesLeave : Type 0
-WritesLeave =
-    (ranges except : List Extent) (tree : Tree) (p q : Placement) (taken : List Extent) (old new : List ℕ)
-    → Holds old tree p taken → ChangesIn ranges old new → InParts ranges except tree.wide p taken
-    → KeepsParts except tree.wide p q
-    → Leaves except [] tree.wide p q old new
-
--- ---- ranges
-
--- a text of a header, before the dimensions
-abbrev pub HeaderIn : Type 0
-HeaderIn =
-    (wide : Bool) (p : Placement) (taken : List Extent) (kind : ExtentKind) (s o n : ℕ) (parts : NodeParts)
-    → parts_of p s ≡ Some parts → o + n ≤ 130
-    → InParts (extent kind (parts.header + o) n ∷ []) (extent ExtentKind.Node parts.header (node_length wide) ∷ []) wide p taken
-
--- a text of a table
-abbrev pub TableIn : Type 0
-TableIn =
-    (wide : Bool) (p : Placement) (taken : List Extent) (kind : ExtentKind) (s place n : ℕ)
-    (parts : NodeParts) (t : TablePart) → parts_of p s ≡ Some parts → parts.table ≡ Some t → t.place ≤ place
-    → place + n ≤ t.place + table_length t.entries
-    → InParts (extent kind place n ∷ []) (extent ExtentKind.SubNodes t.place (table_length t.entries) ∷ []) wide p taken
-
-abbrev pub BothIn : Type 0
-BothIn =
-    (xs ys few more : List Extent) (wide : Bool) (p : Placement) (taken : List Extent)
-    → InParts xs few wide p taken → InParts ys more wide p taken
-    → InParts (xs ++ ys) (few ++ more) wide p taken
 
 -- ---- parts
 

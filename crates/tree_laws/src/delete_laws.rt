@@ -1,7 +1,6 @@
 //! Deletions: what they leave of the tree, their switch, and the gifts that end them.
 
 ghost use Rattle.tree_laws.specs.Entries.{NodesAreErased};
-ghost use Rattle.tree_laws.specs.DeletionWhole.{DeletionFollows};
 ghost use Rattle.tree_laws.specs.SerialOrder.{GivenBySerial, SortedWalkIsSubtree};
 ghost use Rattle.tree_laws.specs.Deletions.{DeletedInItsTree, WalksListSubtrees};
 ghost use Rattle.tree_laws.specs.Gifts.{TakenInAnyOrder, GiftsEnd, DeletedAreTaken, DeletionEnds};
@@ -35,10 +34,4 @@ pub fn gifts_end()
 pub fn gifts_go_by_serial()
     ensures given { GivenBySerial }
     ensures sorted { SortedWalkIsSubtree }
-{}
-
-/// A deletion from the switch to the last gift: the rule of the heap puts the tree where the file holds it, and all parts
-/// stay but the parent's list and those of the nodes that are gone.
-pub fn deletions_follow()
-    ensures { DeletionFollows }
 {}

@@ -2,9 +2,8 @@
 
 ghost use Rattle.tree_laws.specs.Steps.{HeapLeaves, NodesLeave, StepsLeave, MoreLeaves};
 ghost use Rattle.tree_laws.specs.Moving.{LongerLeaves};
-ghost use Rattle.tree_laws.specs.DataLeaving.{RewritesLeave, ReplacedLeaves, OverwrittenLeaves, ShapeLeaves};
 ghost use Rattle.tree_laws.specs.LeavingSteps.{LeavesBySparing, TakeLeaves, TakenLeaves, GiftsLeave, DataLeaves, DeletionLeaves, JoinLeaves, TableJoinLeaves};
-ghost use Rattle.tree_laws.specs.Parting.{WritesLeave, HeaderIn, TableIn, BothIn, SameParts, NewParts, TableParts, ErasedParts, PartsGoOn, MorePart};
+ghost use Rattle.tree_laws.specs.Parting.{SameParts, NewParts, TableParts, ErasedParts, PartsGoOn, MorePart};
 ghost use Rattle.tree_laws.specs.Tails.{TailStays, TailsGoOn, WrittenTail, TakenTail, GivenTail, EndsRise, OneMoreTail};
 
 /// The steps of an edit leave the parts that they do not touch: moves of the heap all of them, nodes that
@@ -33,22 +32,6 @@ pub fn list_steps_leave()
     ensures join { JoinLeaves }
     ensures table { TableJoinLeaves }
     ensures longer { LongerLeaves }
-{}
-
-/// The edits of data leave all but the header and the data of their node; where no shape is set, its dimensions too.
-pub fn data_steps_leave()
-    ensures rewritten { RewritesLeave }
-    ensures replaced { ReplacedLeaves }
-    ensures overwritten { OverwrittenLeaves }
-    ensures shape { ShapeLeaves }
-{}
-
-/// What a step leaves follows from the ranges that it writes and the parts that it keeps.
-pub fn writes_leave_parts()
-    ensures leaves { WritesLeave }
-    ensures header { HeaderIn }
-    ensures table { TableIn }
-    ensures both { BothIn }
 {}
 
 /// A new node, another table and nodes that are gone keep all other parts.

@@ -11,5 +11,4 @@ pub mod holding_laws;
 pub mod leaving_laws;
 pub mod move_laws;
 pub mod reading_laws;
-pub mod step_laws;
 pub mod whole_laws;
