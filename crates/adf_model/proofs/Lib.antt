@@ -66,3 +66,5 @@ pub mod WalkNames
 pub mod CreateStays
 pub mod RunLaws
 pub mod FailedWrites
+pub mod AskLaws
+pub mod AsksThenEdits

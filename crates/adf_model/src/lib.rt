@@ -3,6 +3,7 @@
 
 #![tactic(auto)]
 
+pub mod ask_laws;
 mod calls;
 mod checks;
 pub mod create_laws;

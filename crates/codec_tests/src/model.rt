@@ -1,9 +1,9 @@
 //! Names, labels, shapes, sizes and spelled texts; and the laws of trees and calls.
 
 use adf_model::{
-    AdfError, DataType, Shape, create_laws, data_laws, edit_laws, element_size, fault_laws,
-    is_label, is_name, is_shape, is_wide_shape, laws, one_file_laws, run_laws, size, spell,
-    standing_laws, tree_laws, untouched_laws, walk_laws, write_laws,
+    AdfError, DataType, Shape, ask_laws, create_laws, data_laws, edit_laws, element_size,
+    fault_laws, is_label, is_name, is_shape, is_wide_shape, laws, one_file_laws, run_laws, size,
+    spell, standing_laws, tree_laws, untouched_laws, walk_laws, write_laws,
 };
 use std::alloc::Global;
 
@@ -190,6 +190,8 @@ fn laws_of_calls_are_calls() {
     data_laws::other_parts();
     fault_laws::faults_bound_replies();
     one_file_laws::one_file_as_many();
+    ask_laws::asks_leave_all();
+    ask_laws::queries_have_causes();
     run_laws::states_are_laid_out();
     run_laws::fresh_files_are_known();
     run_laws::no_fresh_file_over_bytes();
