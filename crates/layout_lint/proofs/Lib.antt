@@ -1,5 +1,4 @@
 pub mod PageLaws
-pub mod ReadLaws
 pub mod RowSteps
 pub mod RuleLaws
 pub mod HeadLaws
@@ -29,5 +28,6 @@ pub mod PathLaws
 pub mod OwnerTiling
 pub mod OwnerRows
 pub mod OwnerParts
+pub mod PlaceLaws
 pub mod OwnerLaws
 pub mod OwnerSteps

@@ -16,6 +16,7 @@ use Rattle.adf_format.specs.declared.types.ExtentKind.{ExtentKind}
 use Rattle.adf_format.specs.Checks.{Row, Fault, first_broken}
 use Rattle.adf_format.specs.FirstFault.{type_or_mt, is_same_name, children_in, entries_in, table_in, table_extents_at, chunk_table_extents_at, visit_extents}
 use Rattle.adf_format.proofs.CheckLaws.{first_broken-append}
+use Rattle.adf_format.proofs.FieldLaws.{inner_field}
 use Rattle.adf_format.proofs.WalkLaws.{total_length-append}
 use Rattle.adf_records.specs.declared.NodeHeader.{NodeHeader}
 use Rattle.adf_records.specs.View.{record_of}
@@ -200,3 +201,14 @@ solid_table end t entries old new fits e all = rw e (All-append (IsSolid end) ol
         let some : 0 < entries = grind (arith, nat_tests) in
         let inside = (fits some).1 in
         All-push (IsSolid end) [] (record { place = t; length = table_length entries; kind = ExtentKind.SubNodes }) (λ i d lt. absurd (omega (arith, lt))) (record { part = refl; some = omega arith; inside = omega arith; long = λ h. cc })
+
+-- ---- its name
+
+-- the name of a header is that of the node at its place
+pub name_read : (image : List ℕ) (wide : Bool) (p : ℕ) (n : NodeHeader) → record_of n ≡ node_record wide (field image p (node_length wide)) → n.name ≡ field image (p + 4) 32
+unfolding node_record
+name_read image wide p n says = ap (λ r. r.name) says ∙ inner_field image p (node_length wide) 4 32 (long wide)
+  where
+    long : (wide : Bool) → 4 + 32 ≤ node_length wide
+    long false = omega arith
+    long true = omega arith

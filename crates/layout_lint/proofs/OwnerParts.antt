@@ -1,4 +1,4 @@
--- The nodes of a verdict, each looked at by itself: what its place names are the parts of its number, and it keeps its rules.
+-- The nodes of a layout, each looked at by itself: what its place names are its parts, and it keeps its rules.
 use Rattle.std.proofs.Common.{◌≡◌, inl, inr, ℕ, zero, suc, refl, sym, ◌∙◌, ap, subst, arith, List, [], ◌∷◌, ◌++◌, length, get_or, ◌+◌, ◌<◌, ◌≤◌, Bool, true, false}
 use Rattle.std.proofs.lemmas.List.{length-map}
 use Rattle.std.proofs.lemmas.List.Elements.{All-nil, All-append, All-from_recursion}
@@ -37,44 +37,8 @@ abbrev pub HasLength : Extent → Type 0
 HasLength e = 0 < e.length
 
 -- it keeps its rules by itself, wherever there is room for it
-abbrev Keeps : List ℕ → Bool → ℕ → ℕ → Type 0
+abbrev pub Keeps : List ℕ → Bool → ℕ → ℕ → Type 0
 Keeps image wide end place = (used : ℕ) → used + total_length (extents_at image wide place) ≤ end + 1 → first_broken (node_rows_at image wide end false used place None 0) ≡ None
-
--- the extents of these parts, none of them empty, stand at the place, and the node there keeps its rules
-pub record StandsAlone (image : List ℕ) (wide : Bool) (end : ℕ) (n : NodePlace) (o : Option NodeParts) : Type 0 where
-  pub extents : extents_at image wide n.place ≡ extents_of wide o
-  pub keeps : Keeps image wide end n.place
-  pub some : All HasLength (extents_of wide o)
-
-abbrev pub AreAlone : List ℕ → Bool → ℕ → List NodePlace → List (Option NodeParts) → Type 0
-AreAlone image wide end [] [] = ⊤
-AreAlone image wide end (n ∷ ns) (o ∷ os) = StandsAlone image wide end n o × AreAlone image wide end ns os
-AreAlone image wide end [] (o ∷ os) = ⊥
-AreAlone image wide end (n ∷ ns) [] = ⊥
-
--- ---- of a list
-
-are_alone : (image : List ℕ) (wide : Bool) (end : ℕ) (ns : List NodePlace) (os : List (Option NodeParts)) → length ns ≡ length os
-    → ((k : ℕ) (n : NodePlace) → slice_get ns k ≡ Some n → StandsAlone image wide end n (slice_index_or os k None)) → AreAlone image wide end ns os
-are_alone image wide end [] [] e h = tt
-are_alone image wide end [] (o ∷ os) e h = absurd (omega (arith, e))
-are_alone image wide end (n ∷ ns) [] e h = absurd (omega (arith, e))
-are_alone image wide end (n ∷ ns) (o ∷ os) e h = (h 0 n refl, are_alone image wide end ns os (omega (arith, e)) (λ k m f. h (suc k) m f))
-
-pub keep_rules : (image : List ℕ) (wide : Bool) (end used : ℕ) (ns : List NodePlace) (os : List (Option NodeParts)) → AreAlone image wide end ns os → used + total_length (flat_map (extents_of wide) os) ≤ end + 1 → KeepRules image wide end used ns
-keep_rules image wide end used [] [] h room = tt
-keep_rules image wide end used [] (o ∷ os) h room = absurd h
-keep_rules image wide end used (n ∷ ns) [] h room = absurd h
-keep_rules image wide end used (n ∷ ns) (o ∷ os) h room =
-    let long = total_length-append (extents_of wide o) (flat_map (extents_of wide) os) in
-    let here : total_length (extents_at image wide n.place) ≡ total_length (extents_of wide o) = ap total_length h.0.extents in
-    (h.0.keeps used (omega (arith, room, long, here)), keep_rules image wide end (used + total_length (extents_at image wide n.place)) ns os h.1 (omega (arith, room, long, here)))
-
-pub all_some : (image : List ℕ) (wide : Bool) (end : ℕ) (ns : List NodePlace) (os : List (Option NodeParts)) → AreAlone image wide end ns os → All HasLength (flat_map (extents_of wide) os)
-all_some image wide end [] [] h = All-nil HasLength
-all_some image wide end [] (o ∷ os) h = absurd h
-all_some image wide end (n ∷ ns) [] h = absurd h
-all_some image wide end (n ∷ ns) (o ∷ os) h = All-append HasLength (extents_of wide o) (flat_map (extents_of wide) os) h.0.some (all_some image wide end ns os h.1)
 
 -- ---- no part is empty
 
@@ -95,7 +59,7 @@ long_chunk_table None n = All-nil HasLength
 long_chunk_table (Some place) n = All-from_recursion HasLength (chunk_table_extents (Some place) n) (omega arith, tt)
 
 module _ (image : List ℕ) (tree : Tree) (p : Placement) (l : LaysOut image tree p) where
-  long_parts : (node : Node) (parts : NodeParts) → HoldsNode image tree p node parts → All HasLength (node_extents tree.wide parts)
+  pub long_parts : (node : Node) (parts : NodeParts) → HoldsNode image tree p node parts → All HasLength (node_extents tree.wide parts)
   long_parts node parts h =
       All-append HasLength (extent ExtentKind.Node parts.header (node_length tree.wide) ∷ []) (table_extents parts.table ++ chunk_table_extents parts.chunk_table (length parts.chunks) ++ chunk_extents parts.chunks)
       (All-from_recursion HasLength (extent ExtentKind.Node parts.header (node_length tree.wide) ∷ []) (long_node tree.wide, tt))
@@ -117,7 +81,7 @@ module _ (image : List ℕ) (tree : Tree) (p : Placement) (l : LaysOut image tre
   visit_at (v ∷ vs) (t ∷ ss) zero s h e = (v, inl refl, subst (Stands image tree p l v) (same_Some t s e) h.0)
   visit_at (v ∷ vs) (t ∷ ss) (suc k) s h e = let r = visit_at vs ss k s h.1 e in (r.0, inr r.1, r.2)
 
-  keeps_at : (s : ℕ) (parts : NodeParts) → IsSome (node_at tree s) → parts_of p s ≡ Some parts → Keeps image tree.wide p.heap.end parts.header
+  pub keeps_at : (s : ℕ) (parts : NodeParts) → IsSome (node_at tree s) → parts_of p s ≡ Some parts → Keeps image tree.wide p.heap.end parts.header
   keeps_at s parts live has =
       let walk = nodes_stand image tree p l in
       let met = visit_at walk.0 (tree_order tree) (pos tree l.is_tree s) s walk.2 (at_pos tree l.is_tree s live) in
@@ -173,16 +137,3 @@ module _ (image : List ℕ) (tree : Tree) (p : Placement) (l : LaysOut image tre
             place = place;
             extents = visit_parts image tree.wide (record { place = n.place; entry = None; path = [] }) ∙ ap (λ q. node_extents tree.wide (parts_at image tree.wide q)) place ∙ ap (node_extents tree.wide) (sym held);
           }
-
-      pub stand_alone : AreAlone image tree.wide p.heap.end ns p.parts
-      stand_alone = are_alone image tree.wide p.heap.end ns p.parts (listed.count ∙ sym as_many) one
-        where
-          one : (k : ℕ) (n : NodePlace) → slice_get ns k ≡ Some n → StandsAlone image tree.wide p.heap.end n (parts_of p k)
-          one k n e =
-              let h = has_parts k n e in
-              let live : IsSome (node_at tree k) = ap is_some h.at in
-              record {
-                extents = h.extents ∙ ap (extents_of tree.wide) (sym h.has);
-                keeps = subst (Keeps image tree.wide p.heap.end) (sym h.place) (keeps_at k h.parts live h.has);
-                some = subst (λ o. All HasLength (extents_of tree.wide o)) (sym h.has) (long_parts h.node h.parts (l.nodes k h.node h.parts h.at h.has));
-              }

@@ -1,6 +1,7 @@
 -- The paths of the nodes of a tree, as they are printed.
 use Rattle.std.specs.Prelude.{◌≡◌, ℕ, List, [], ◌∷◌, ◌++◌, slice_get, Some}
 use Rattle.adf_format.specs.Tree.{Tree, children_at, name_at}
+use Rattle.adf_format.specs.Fields.{trimmed}
 use Rattle.adf_model.specs.Spelling.{spelled}
 
 -- The names on the way from the root to a node, each spelled and behind a slash: none for the root.
@@ -23,3 +24,7 @@ pub record IsPath (tree : Tree) (node : ℕ) (text : List ℕ) : Type 0 where
   pub way : List ℕ
   pub leads : IsWay tree node way
   pub printed : text ≡ printed_way way
+
+-- the name fields of the nodes of a tree, by their numbers
+abbrev pub AreNames : Tree → List (List ℕ) → Type 0
+AreNames tree names = (k : ℕ) (name : List ℕ) → slice_get names k ≡ Some name → trimmed name ≡ name_at tree k

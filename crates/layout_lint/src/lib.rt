@@ -26,6 +26,8 @@ mod walk;
 
 pub use adf_format::{Extent, ExtentKind, Extents, Format};
 pub use examine::lint;
-pub use owners::{Owned, OwnedExtents, extents, owned_extents};
+pub use owners::{
+    NodeNames, Owned, OwnedExtents, Surveyed, extents, owned_extents, survey, survey_places,
+};
 pub use paths::path_of;
 pub use verdict::{NodePlace, NodePlaces, Verdict};

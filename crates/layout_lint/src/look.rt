@@ -3,6 +3,7 @@
 ghost use Rattle.std.specs.Prelude.{◌≡◌, ◌^◌, ◌+◌, ◌-◌, ◌*◌, ◌≤◌, ◌<◌, ◌++◌, ◌&&◌, ◌||◌, ◌==◌, not, nat_le, nat_lt, length, IfOk, IfErr, OnOk};
 ghost use Rattle.std.specs.List.{All};
 ghost use Rattle.cg_io.specs.Blocks.{ReadsFew};
+ghost use Rattle.adf_format.specs.Fields.{field};
 ghost use Rattle.adf_format.specs.Names.{is_lk};
 ghost use Rattle.adf_format.specs.Parts.{table_length, node_length};
 ghost use Rattle.adf_format.specs.Tiles.{total_length};
@@ -33,6 +34,8 @@ pub struct Next {
     pub children: u32,
     /// The bytes of all extents found so far, those of the node among them.
     pub used: u64,
+    /// The name field of the node.
+    pub name: [u8; 32],
 }
 
 const MOST_CHILDREN: u32 = 1 << 20;
@@ -185,6 +188,7 @@ pub fn look<B: Blocks>(
     ensures adds { OnOk result (AddsNode span.wide met.now.place extents.old.items extents.new.items) }
     ensures inside { OnOk result ((266 ≤ met.now.place) × (met.now.place + node_length span.wide ≤ span.end + 1)) }
     ensures next { IfOk result (IsNext span.end used met.now.depth) }
+    ensures named { IfOk result (λ next. Told (B.state blocks.old).held (λ image. span.end < length image → next.name ≡ field image (met.now.place + 4) 32)) }
     ensures solid { OnOk result (All (IsSolid span.end) extents.new.items) }
     ensures effect { ReadsFew (3 * (span.end + 1) + 32) (B.state blocks.old) (B.state blocks.new) }
     ensures few { IfOk result (λ next. ReadsFew (next.used - used - 2 * next.children) (B.state blocks.old) (B.state blocks.new)) }
@@ -219,6 +223,7 @@ pub fn look<B: Blocks>(
             table: table_of(&header),
             children: header.children,
             used,
+            name: header.name,
         }),
         Err(halt) => Err(halt),
     }

@@ -1,6 +1,5 @@
 -- The map of a file, from what was said of its extents.
-use Rattle.std.proofs.Common.{◌≡◌, ◌⊎◌, inl, inr, ℕ, ◌≤◌, Bool, List, [], ◌++◌, length, take, map, Option, refl, sym, ap, subst, ◌∙◌, arith}
-use Rattle.std.specs.List.{All}
+use Rattle.std.proofs.Common.{◌≡◌, ◌⊎◌, inl, inr, ℕ, ◌≤◌, Bool, List, [], ◌++◌, take, map, Option, refl, sym, ap, subst, ◌∙◌, arith}
 use Rattle.std.proofs.KnownBytes.{Appends-nil}
 use Rattle.cg_io.specs.Device.{DeviceState}
 use Rattle.adf_format.specs.RuleNumbers.{IsRule}
@@ -14,7 +13,8 @@ use Rattle.layout_lint.specs.declared.owners.Owned.{Owned}
 use Rattle.layout_lint.specs.Walks.{node_place}
 use Rattle.layout_lint.specs.Told.{Told}
 use Rattle.layout_lint.specs.Verdicts.{MayFail}
-use Rattle.layout_lint.specs.Owners.{IsThere, IsNoLayout, MayRefuse, OnlyReads, OwnsAll}
+use Rattle.layout_lint.specs.Owners.{IsNoLayout, MayRefuse, OwnsAll}
+use Rattle.layout_lint.specs.Paths.{AreNames}
 use Rattle.layout_report.specs.Lines.{fault_line, end_line}
 use Rattle.layout_report.specs.Reports.{Ends, Says, TellsLines, Listed, Mapped, StartsMap, IsMap, Refuses}
 use Rattle.layout_report.specs.Reports.Says.{whole}
@@ -29,53 +29,48 @@ IsSoundFile nodes gaps end image = (format : Format) × (wide : Bool) × IsLaidO
 abbrev pub OwnsEach : List code.NodePlace → List Extent → List Owned → List ℕ → Type 0
 OwnsEach nodes gaps owned image = (end : ℕ) (format : Format) (wide : Bool) (laid : IsLaidOutAs image (map node_place nodes) gaps end format wide) → OwnsAll laid.tree laid.placement owned
 
--- the first lines are those of a map
-begins : (nodes : List code.NodePlace) (gaps : List Extent) (end k : ℕ) (owned : List Owned) (lines image : List ℕ)
-    → IsSoundFile nodes gaps end image → All (IsThere (length nodes)) owned → OwnsEach nodes gaps owned image → TellsLines nodes owned (take k owned) lines image → StartsMap image lines
-begins nodes gaps end k owned lines image (format, wide, laid) there all tells = inr (record {
-  tree = laid.tree;
-  placement = laid.placement;
-  laid_out = laid.laid_out;
-  in_order = laid.in_order;
-  owned = owned;
-  all = all end format wide laid;
-  count = k;
-  each = tells gaps end format wide laid there;
-})
+abbrev pub NamesEach : List code.NodePlace → List Extent → List (List ℕ) → List ℕ → Type 0
+NamesEach nodes gaps names image = (end : ℕ) (format : Format) (wide : Bool) (laid : IsLaidOutAs image (map node_place nodes) gaps end format wide) → AreNames laid.tree names
 
-maps : (nodes : List code.NodePlace) (gaps : List Extent) (end : ℕ) (owned : List Owned) (lines image : List ℕ)
-    → IsSoundFile nodes gaps end image → All (IsThere (length nodes)) owned → OwnsEach nodes gaps owned image → TellsLines nodes owned owned lines image → IsMap image (lines ++ end_line end)
-maps nodes gaps end owned lines image (format, wide, laid) there all tells = record {
-  tree = laid.tree;
-  placement = laid.placement;
-  laid_out = laid.laid_out;
-  in_order = laid.in_order;
-  owned = owned;
-  all = all end format wide laid;
-  lines = lines;
-  each = tells gaps end format wide laid there;
-  whole = ap (λ (last : ℕ). lines ++ end_line last) (sym laid.same_end);
-}
+module _ (nodes : List code.NodePlace) (names : List (List ℕ)) (gaps : List Extent) (end : ℕ) (owned : List Owned) where
+  -- the first lines are those of a map
+  begins : (k : ℕ) (lines image : List ℕ) → IsSoundFile nodes gaps end image → OwnsEach nodes gaps owned image → NamesEach nodes gaps names image → TellsLines nodes names (take k owned) lines → StartsMap image lines
+  begins k lines image (format, wide, laid) all named tells = inr (record {
+    tree = laid.tree;
+    placement = laid.placement;
+    laid_out = laid.laid_out;
+    in_order = laid.in_order;
+    owned = owned;
+    all = all end format wide laid;
+    count = k;
+    each = tells laid.tree laid.placement laid.laid_out.is_tree laid.in_order laid.listed (named end format wide laid);
+  })
 
--- what is said of the extents of a sound file is what is said of the file
-pub listed_mapped : (nodes : List code.NodePlace) (gaps : List Extent) (end : ℕ) (owned : List Owned) (old mid new : DeviceState)
-    → OnlyReads old mid → Told old.held (IsSoundFile nodes gaps end) → All (IsThere (length nodes)) owned → Told old.held (OwnsEach nodes gaps owned)
-    → (report : Report) (text : List ℕ) → Listed nodes owned end mid new report text → Mapped old new report text
-listed_mapped nodes gaps end owned old mid new reads sound there all _ _ (Listed.whole lines tells) =
-    Mapped.whole (λ image held. maps nodes gaps end owned lines image (sound image held) there (all image held) (tells image (reads.held ∙ held)))
-listed_mapped nodes gaps end owned old mid new reads sound there all _ _ (Listed.changed lines rule place rules none) =
-    Mapped.changed lines rule place rules (λ image held. let is = sound image held in none image (reads.held ∙ held) gaps end is.0 is.1 is.2)
-listed_mapped nodes gaps end owned old mid new reads sound there all _ _ (Listed.failed k lines rose tells) =
-    Mapped.failed lines (omega (arith, rose, reads.faults)) (λ image held. begins nodes gaps end k owned lines image (sound image held) there (all image held) (tells image (reads.held ∙ held)))
-listed_mapped nodes gaps end owned old mid new reads sound there all _ _ (Listed.lacking k {lines = lines} tells) =
-    Mapped.lacking (λ image held. begins nodes gaps end k owned lines image (sound image held) there (all image held) (tells image (reads.held ∙ held)))
+  maps : (lines image : List ℕ) → IsSoundFile nodes gaps end image → OwnsEach nodes gaps owned image → NamesEach nodes gaps names image → TellsLines nodes names owned lines → IsMap image (lines ++ end_line end)
+  maps lines image (format, wide, laid) all named tells = record {
+    tree = laid.tree;
+    placement = laid.placement;
+    laid_out = laid.laid_out;
+    in_order = laid.in_order;
+    owned = owned;
+    all = all end format wide laid;
+    lines = lines;
+    each = tells laid.tree laid.placement laid.laid_out.is_tree laid.in_order laid.listed (named end format wide laid);
+    whole = ap (λ (last : ℕ). lines ++ end_line last) (sym laid.same_end);
+  }
+
+  -- what is said of the extents of a sound file is what is said of the file
+  pub listed_mapped : (old new : DeviceState) → Told old.held (IsSoundFile nodes gaps end) → Told old.held (OwnsEach nodes gaps owned) → Told old.held (NamesEach nodes gaps names)
+      → (report : Report) (text : List ℕ) → Listed nodes names owned end report text → Mapped old new report text
+  listed_mapped old new sound all named _ _ (Listed.whole lines tells) = Mapped.whole (λ image held. maps lines image (sound image held) (all image held) (named image held) tells)
+  listed_mapped old new sound all named _ _ (Listed.lacking k {lines = lines} tells) = Mapped.lacking (λ image held. begins k lines image (sound image held) (all image held) (named image held) tells)
 
 -- what is said after some reads
 pub mapped_before : (old mid new : DeviceState) → mid.held ≡ old.held → old.faults ≤ mid.faults → (report : Report) (text : List ℕ) → Mapped mid new report text → Mapped old new report text
 mapped_before old mid new same rises _ _ (Mapped.whole is) = Mapped.whole (λ image held. is image (same ∙ held))
 mapped_before old mid new same rises _ _ (Mapped.broken rule place rules is) = Mapped.broken rule place rules (λ image held. is image (same ∙ held))
-mapped_before old mid new same rises _ _ (Mapped.changed lines rule place rules is) = Mapped.changed lines rule place rules (λ image held. is image (same ∙ held))
-mapped_before old mid new same rises _ _ (Mapped.failed lines rose is) = Mapped.failed lines (omega (arith, rose)) (λ image held. is image (same ∙ held))
+mapped_before old mid new same rises _ _ (Mapped.changed rule place rules is) = Mapped.changed rule place rules (λ image held. is image (same ∙ held))
+mapped_before old mid new same rises _ _ (Mapped.failed rose) = Mapped.failed (omega (arith, rose))
 mapped_before old mid new same rises _ _ (Mapped.lacking is) = Mapped.lacking (λ image held. is image (same ∙ held))
 
 -- nothing was said before the work ended
@@ -85,16 +80,16 @@ pub refuses_at_once : (old new : DeviceState) (O : Type 0) (takes : O → Option
     → Says (Mapped old new) (takes before) (takes after) (counts before) (counts after) result
 refuses_at_once old new O takes counts given result before after cause lawful told =
     refuses_behind (Mapped old new) O takes counts given [] result (takes before) (counts before) before after old.faults new.faults
-    (λ rule place rules is. Mapped.changed [] rule place rules (λ image held. subst IsNoLayout is (lawful image held)))
-    (λ rose. Mapped.failed [] rose (λ image held. inl refl)) (Mapped.lacking (λ image held. inl refl)) cause (Appends-nil (takes before)) (omega arith) told
+    (λ rule place rules is. Mapped.changed rule place rules (λ image held. subst IsNoLayout is (lawful image held)))
+    (λ rose. Mapped.failed rose) (Mapped.lacking (λ image held. inl refl)) cause (Appends-nil (takes before)) (omega arith) told
 
 -- the extents of a sound file are said
-pub extents_said : (nodes : List code.NodePlace) (gaps : List Extent) (end : ℕ) (owned said : List Owned) (old mid new : DeviceState) (taken now : Option (List ℕ)) (faults later : ℕ) (result : Report)
-    → OnlyReads old mid → Told old.held (IsSoundFile nodes gaps end) → All (IsThere (length nodes)) owned → Told old.held (OwnsEach nodes gaps owned) → said ≡ owned
-    → Says (Listed nodes said end mid new) taken now faults later result → Says (Mapped old new) taken now faults later result
-extents_said nodes gaps end owned said old mid new taken now faults later result reads sound there all same is =
-    said_as (Listed nodes owned end mid new) (Mapped old new) taken now faults later result (listed_mapped nodes gaps end owned old mid new reads sound there all)
-    (subst (λ (os : List Owned). Says (Listed nodes os end mid new) taken now faults later result) same is)
+pub extents_said : (nodes : List code.NodePlace) (names : List (List ℕ)) (gaps : List Extent) (end : ℕ) (owned said : List Owned) (old new : DeviceState) (taken now : Option (List ℕ)) (faults later : ℕ) (result : Report)
+    → Told old.held (IsSoundFile nodes gaps end) → Told old.held (OwnsEach nodes gaps owned) → Told old.held (NamesEach nodes gaps names) → said ≡ owned
+    → Says (Listed nodes names said end) taken now faults later result → Says (Mapped old new) taken now faults later result
+extents_said nodes names gaps end owned said old new taken now faults later result sound all named same is =
+    said_as (Listed nodes names owned end) (Mapped old new) taken now faults later result (listed_mapped nodes names gaps end owned old new sound all named)
+    (subst (λ (os : List Owned). Says (Listed nodes names os end) taken now faults later result) same is)
 
 -- the linter found a broken rule
 pub fault_said : (old new : DeviceState) (O : Type 0) (takes : O → Option (List ℕ)) (counts : O → ℕ) (rule place : ℕ) (result : Report) (before after : O)

@@ -5,24 +5,23 @@ use Rattle.cg_io.specs.Cause.{Rose}
 use Rattle.cg_io.specs.Device.{DeviceState}
 use Rattle.session.specs.Printed.{AppendsPart}
 use Rattle.adf_format.specs.RuleNumbers.{IsRule}
-use Rattle.adf_format.specs.Tree.{Tree, IsNumbered}
+use Rattle.adf_format.specs.Tree.{Tree, IsTree, IsNumbered}
 use Rattle.adf_format.specs.Placement.{Placement}
 use Rattle.adf_format.specs.LaysOut.{LaysOut}
-use Rattle.adf_format.specs.Verdict.{IsLaidOutAs}
+use Rattle.adf_format.specs.Verdict.{ListsNodes}
 use Rattle.adf_format.specs.declared.types.Extent.{Extent}
 use Rattle.adf_format.specs.declared.types.Format.{Format}
 use Rattle.adf_model.specs.declared.error.AdfError.{AdfError}
 use Rattle.adf_model.specs.declared.error.AdfError.TheVariants as error
 use Rattle.layout_lint.specs.declared.verdict.NodePlace as code
 use Rattle.layout_lint.specs.Walks.{node_place}
-use Rattle.std.specs.List.{All}
 use Rattle.adf_format.specs.FirstFault.{FirstFault}
 use Rattle.layout_lint.specs.declared.owners.Owned.{Owned}
 use Rattle.layout_lint.specs.declared.verdict.Verdict.{Verdict}
 use Rattle.layout_lint.specs.declared.verdict.Verdict.TheVariants as says
 use Rattle.layout_lint.specs.Told.{Told}
-use Rattle.layout_lint.specs.Owners.{IsThere, OwnsAll}
-use Rattle.layout_lint.specs.Paths.{IsPath}
+use Rattle.layout_lint.specs.Owners.{OwnsAll}
+use Rattle.layout_lint.specs.Paths.{IsPath, AreNames}
 use Rattle.layout_lint.specs.Verdicts.{IsVerdict, NamesRule}
 use Rattle.layout_report.specs.Lines.{verdict_line, fault_line, extent_line, part_line, end_line}
 use Rattle.layout_report.specs.declared.Report.{Report}
@@ -93,13 +92,13 @@ pub record BeginsMap (image : List ℕ) (lines : List ℕ) : Type 0 where
 abbrev pub StartsMap : List ℕ → List ℕ → Type 0
 StartsMap image lines = (lines ≡ []) ⊎ BeginsMap image lines
 
--- What `map` answers of a file: its map; the first rule that it breaks, or one that it breaks since the verdict,
--- which comes only where the device tells no bytes; or the first lines of its map and that a read failed, or these alone for want of memory.
+-- What `map` answers of a file: its map, or the first lines of it for want of memory; the first rule that it breaks, or one that it
+-- breaks since the verdict, which comes only where the device tells no bytes; or that a read failed.
 pub data Mapped (old new : DeviceState) : Report → List ℕ → Type 0 where
   whole : {text : List ℕ} → Told old.held (λ image. IsMap image text) → Mapped old new ended.Done text
   broken : (rule place : ℕ) → IsRule rule → Told old.held (λ image. FirstFault image (record { rule = rule; place = place })) → Mapped old new ended.Broken (fault_line rule place)
-  changed : (lines : List ℕ) (rule place : ℕ) → IsRule rule → Told old.held (λ image. ⊥) → Mapped old new ended.Broken (lines ++ fault_line rule place)
-  failed : (lines : List ℕ) → Rose old.faults new.faults → Told old.held (λ image. StartsMap image lines) → Mapped old new ended.DeviceFault (lines ++ read_fault_line)
+  changed : (rule place : ℕ) → IsRule rule → Told old.held (λ image. ⊥) → Mapped old new ended.Broken (fault_line rule place)
+  failed : Rose old.faults new.faults → Mapped old new ended.DeviceFault read_fault_line
   lacking : {lines : List ℕ} → Told old.held (λ image. StartsMap image lines) → Mapped old new ended.Memory lines
 
 -- What is said of a refusal: the rule that is broken, or that a read failed.
@@ -108,15 +107,11 @@ Refuses (error.Layout rule place) result taken now faults later = Ends ended.Bro
 Refuses error.Memory result taken now faults later = ⊥
 Refuses other result taken now faults later = Ends ended.DeviceFault read_fault_line result taken now faults later
 
--- where an image is laid out with these nodes, a text is the lines of some of its extents
-abbrev pub TellsLines : List code.NodePlace → List Owned → List Owned → List ℕ → List ℕ → Type 0
-TellsLines nodes owned some lines image = (gaps : List Extent) (end : ℕ) (format : Format) (wide : Bool) (laid : IsLaidOutAs image (map node_place nodes) gaps end format wide)
-    → All (IsThere (length nodes)) owned → AreLines laid.tree some lines
+-- a text is the lines of some extents of each tree whose nodes stand so and are named so
+abbrev pub TellsLines : List code.NodePlace → List (List ℕ) → List Owned → List ℕ → Type 0
+TellsLines nodes names some lines = (tree : Tree) (p : Placement) → IsTree tree → IsNumbered tree → ListsNodes tree p (map node_place nodes) → AreNames tree names → AreLines tree some lines
 
--- What is said of some extents of a file: the lines of all of them and of the last byte; or the first lines and why no more.
-pub data Listed (nodes : List code.NodePlace) (owned : List Owned) (end : ℕ) (old new : DeviceState) : Report → List ℕ → Type 0 where
-  whole : (lines : List ℕ) → Told old.held (TellsLines nodes owned owned lines) → Listed nodes owned end old new ended.Done (lines ++ end_line end)
-  changed : (lines : List ℕ) (rule place : ℕ) → IsRule rule → Told old.held (λ image. (gaps : List Extent) (end : ℕ) (format : Format) (wide : Bool) → IsLaidOutAs image (map node_place nodes) gaps end format wide → ⊥)
-      → Listed nodes owned end old new ended.Broken (lines ++ fault_line rule place)
-  failed : (k : ℕ) (lines : List ℕ) → Rose old.faults new.faults → Told old.held (TellsLines nodes owned (take k owned) lines) → Listed nodes owned end old new ended.DeviceFault (lines ++ read_fault_line)
-  lacking : (k : ℕ) {lines : List ℕ} → Told old.held (TellsLines nodes owned (take k owned) lines) → Listed nodes owned end old new ended.Memory lines
+-- What is said of some extents: the lines of all of them and of the last byte, or the first lines for want of memory.
+pub data Listed (nodes : List code.NodePlace) (names : List (List ℕ)) (owned : List Owned) (end : ℕ) : Report → List ℕ → Type 0 where
+  whole : (lines : List ℕ) → TellsLines nodes names owned lines → Listed nodes names owned end ended.Done (lines ++ end_line end)
+  lacking : (k : ℕ) {lines : List ℕ} → TellsLines nodes names (take k owned) lines → Listed nodes names owned end ended.Memory lines

@@ -1,7 +1,8 @@
 //! The report on a linter's verdict.
 
-ghost use Rattle.std.specs.Prelude.{◌≡◌, ◌⊎◌, IfOk, IfErr};
-ghost use Rattle.layout_lint.specs.Owners.{OnlyReads};
+ghost use Rattle.std.specs.Prelude.{◌≡◌, ◌⊎◌, ◌+◌, ◌*◌, length, IfOk, IfErr};
+ghost use Rattle.cg_io.specs.Answers.{OnlyReads};
+ghost use Rattle.cg_io.specs.Blocks.{ReadsFew};
 ghost use Rattle.layout_lint.specs.Told.{Told};
 ghost use Rattle.layout_lint.specs.Verdicts.{IsVerdict, NamesRule, MayFail};
 ghost use Rattle.layout_report.specs.Lines.{verdict_line};
@@ -25,6 +26,7 @@ fn verdict_on<D: Device>(alloc: Global, device: D) -> (D, Result<Verdict, AdfErr
     ensures rule { IfOk result.1 NamesRule }
     ensures cause { IfErr result.1 (MayFail (D.state device).faults (D.state result.0).faults) }
     ensures effect { OnlyReads (D.state device) (D.state result.0) }
+    ensures few { Told (D.state device).held (λ image. ReadsFew (8 * length image + 16) (D.state device) (D.state result.0)) }
 {
     match BlockCache::new(alloc, device, KEPT_BLOCKS) {
         Ok(blocks) => {
@@ -60,6 +62,7 @@ fn say_verdict<O: Sink>(alloc: Global, verdict: &Verdict, output: &mut O) -> Rep
 pub fn lint_file<D: Device, O: Sink>(alloc: Global, device: D, output: &mut O) -> (D, Report)
     ensures says { Says (Linted (D.state device) (D.state result.0)) (O.taken output.old) (O.taken output.new) (O.faults output.old) (O.faults output.new) result.1 }
     ensures effect { OnlyReads (D.state device) (D.state result.0) }
+    ensures few { Told (D.state device).held (λ image. ReadsFew (8 * length image + 16) (D.state device) (D.state result.0)) }
 {
     let (device, found) = verdict_on(alloc, device);
     match found {

@@ -1,10 +1,16 @@
 //! The map of a file: its extents by place, each with the path of its node.
 
-ghost use Rattle.std.specs.Prelude.{◌≡◌, ℕ, Bool, List, length, map, IfOk, IfErr};
-ghost use Rattle.adf_format.specs.declared.types.Extent.{Extent};
+ghost use Rattle.std.specs.Prelude.{◌≡◌, ◌+◌, ◌*◌, ◌^◌, Bool, length, map, IfOk, IfErr};
+ghost use Rattle.std.specs.List.{All};
+ghost use Rattle.cg_io.specs.Answers.{OnlyReads};
+ghost use Rattle.cg_io.specs.Blocks.{ReadsFew};
+ghost use Rattle.adf_format.specs.Tree.{Tree, IsTree, IsNumbered};
+ghost use Rattle.adf_format.specs.Placement.{Placement};
 ghost use Rattle.adf_format.specs.declared.types.Format.{Format};
-ghost use Rattle.adf_format.specs.Verdict.{IsLaidOutAs};
-ghost use Rattle.layout_lint.specs.Owners.{IsThere, OnlyReads, IsNoLayout, MayRefuse};
+ghost use Rattle.adf_format.specs.Verdict.{IsLaidOutAs, ListsNodes};
+ghost use Rattle.layout_lint.specs.Owners.{IsThere};
+ghost use Rattle.layout_lint.specs.Paths.{AreNames};
+ghost use Rattle.layout_lint.specs.Shapes.{AreLinked};
 ghost use Rattle.layout_lint.specs.Told.{Told};
 ghost use Rattle.layout_lint.specs.Walks.{node_place};
 ghost use Rattle.layout_report.specs.Lines.{extent_line};
@@ -18,7 +24,7 @@ use adf_format::{Extent, Extents};
 use adf_model::AdfError;
 use block_cache::BlockCache;
 use cg_io::{Blocks, Device, Sink};
-use layout_lint::{NodePlaces, Owned, Verdict, lint, owned_extents, path_of};
+use layout_lint::{NodeNames, NodePlaces, Owned, Surveyed, Verdict, lint, path_of, survey};
 use session::print;
 use std::alloc::Global;
 
@@ -34,25 +40,23 @@ fn lone_line(alloc: Global, extent: Extent) -> Result<Vec<u8>, AdfError>
 }
 
 // The line of an extent.
-fn line_of<B: Blocks>(
+fn line_of(
     alloc: Global,
-    blocks: &mut B,
     nodes: &NodePlaces,
+    names: &NodeNames,
     part: &Owned,
 ) -> Result<Vec<u8>, AdfError>
-    requires { B.is_sound blocks.old }
-    ensures layer { B.is_sound blocks.new }
-    ensures line { IfOk result (λ line. Told (B.state blocks.old).held (λ image. (gaps : List Extent) (end : ℕ) (format : Format) (wide : Bool) (laid : IsLaidOutAs image (map node_place nodes.now) gaps end format wide)
-        → IsThere (length nodes.now) part.now → IsLine laid.tree part.now line.items)) }
-    ensures refused { IfErr result (λ e. Told (B.state blocks.old).held (λ image. (gaps : List Extent) (end : ℕ) (format : Format) (wide : Bool) → IsLaidOutAs image (map node_place nodes.now) gaps end format wide → IsNoLayout e)) }
-    ensures effect { OnlyReads (B.state blocks.old) (B.state blocks.new) }
-    ensures cause { IfErr result (MayRefuse (B.state blocks.old).faults (B.state blocks.new).faults) }
+    requires linked { AreLinked (map node_place nodes.now) }
+    requires named { length names.now ≡ length nodes.now }
+    requires there { IsThere (length nodes.now) part.now }
+    ensures line { IfOk result (λ line. (tree : Tree) (p : Placement) → IsTree tree → IsNumbered tree → ListsNodes tree p (map node_place nodes.now) → AreNames tree names.now → IsLine tree part.now line.items) }
+    ensures want { IfErr result (λ e. e ≡ AdfError.Memory) }
 {
     let number = match part.owner {
         Some(number) => number,
         None => return lone_line(alloc, part.extent),
     };
-    let path = match path_of(alloc, blocks, nodes, number) {
+    let path = match path_of(alloc, nodes, names, number) {
         Ok(path) => path,
         Err(error) => return Err(error),
     };
@@ -63,23 +67,23 @@ fn line_of<B: Blocks>(
 }
 
 // The lines of all extents, then the last byte.
-fn say_extents<B: Blocks, O: Sink>(
+fn say_extents<O: Sink>(
     alloc: Global,
-    blocks: &mut B,
     nodes: &NodePlaces,
+    names: &NodeNames,
     owned: &[Owned],
     end: u64,
     output: &mut O,
 ) -> Report
-    requires { B.is_sound blocks.old }
-    ensures layer { B.is_sound blocks.new }
-    ensures says { Says (Listed nodes.now owned.now end (B.state blocks.old) (B.state blocks.new)) (O.taken output.old) (O.taken output.new) (O.faults output.old) (O.faults output.new) result }
-    ensures effect { OnlyReads (B.state blocks.old) (B.state blocks.new) }
+    requires linked { AreLinked (map node_place nodes.now) }
+    requires named { length names.now ≡ length nodes.now }
+    requires there { All (IsThere (length nodes.now)) owned.now }
+    ensures { Says (Listed nodes.now names.now owned.now end) (O.taken output.old) (O.taken output.new) (O.faults output.old) (O.faults output.new) result }
 {
     for k in 0..owned.len() {
-        let line = match line_of(alloc, blocks, nodes, &owned[k]) {
+        let line = match line_of(alloc, nodes, names, &owned[k]) {
             Ok(line) => line,
-            Err(error) => return say_refusal(alloc, error, output),
+            Err(_) => return Report::Memory,
         };
         match print(output, &line) {
             Ok(()) => {}
@@ -102,13 +106,18 @@ fn map_sound<B: Blocks, O: Sink>(
     output: &mut O,
 ) -> Report
     requires layer { B.is_sound blocks.old }
+    requires linked { AreLinked (map node_place nodes.now) }
     requires sound { Told (B.state blocks.old).held (λ image. (format : Format) × (wide : Bool) × IsLaidOutAs image (map node_place nodes.now) gaps.now end format wide) }
     ensures layer { B.is_sound blocks.new }
     ensures says { Says (Mapped (B.state blocks.old) (B.state blocks.new)) (O.taken output.old) (O.taken output.new) (O.faults output.old) (O.faults output.new) result }
-    ensures effect { OnlyReads (B.state blocks.old) (B.state blocks.new) }
+    ensures effect { ReadsFew (4 * 2 ^ 44 + 35) (B.state blocks.old) (B.state blocks.new) }
+    ensures few { Told (B.state blocks.old).held (λ image. ReadsFew (4 * length image + 35) (B.state blocks.old) (B.state blocks.new)) }
 {
-    match owned_extents(alloc, blocks, nodes, gaps) {
-        Ok(owned) => say_extents(alloc, blocks, nodes, owned.items(), end, output),
+    match survey(alloc, blocks, nodes, gaps) {
+        Ok(found) => {
+            let Surveyed { extents, names } = found;
+            say_extents(alloc, nodes, &names, extents.items(), end, output)
+        }
         Err(error) => say_refusal(alloc, error, output),
     }
 }
@@ -118,7 +127,8 @@ fn map_blocks<B: Blocks, O: Sink>(alloc: Global, blocks: &mut B, output: &mut O)
     requires { B.is_sound blocks.old }
     ensures layer { B.is_sound blocks.new }
     ensures says { Says (Mapped (B.state blocks.old) (B.state blocks.new)) (O.taken output.old) (O.taken output.new) (O.faults output.old) (O.faults output.new) result }
-    ensures effect { OnlyReads (B.state blocks.old) (B.state blocks.new) }
+    ensures effect { ReadsFew (12 * 2 ^ 44 + 51) (B.state blocks.old) (B.state blocks.new) }
+    ensures few { Told (B.state blocks.old).held (λ image. ReadsFew (12 * length image + 51) (B.state blocks.old) (B.state blocks.new)) }
 {
     match lint(alloc, blocks) {
         Ok(
@@ -140,6 +150,7 @@ fn map_blocks<B: Blocks, O: Sink>(alloc: Global, blocks: &mut B, output: &mut O)
 pub fn map_file<D: Device, O: Sink>(alloc: Global, device: D, output: &mut O) -> (D, Report)
     ensures says { Says (Mapped (D.state device) (D.state result.0)) (O.taken output.old) (O.taken output.new) (O.faults output.old) (O.faults output.new) result.1 }
     ensures effect { OnlyReads (D.state device) (D.state result.0) }
+    ensures few { Told (D.state device).held (λ image. ReadsFew (12 * length image + 51) (D.state device) (D.state result.0)) }
 {
     match BlockCache::new(alloc, device, KEPT_BLOCKS) {
         Ok(blocks) => {

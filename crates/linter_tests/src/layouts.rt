@@ -1,18 +1,20 @@
 //! What is said of sound files, and calls over a device whose reads fail.
 
-ghost use Rattle.std.specs.Prelude.{IfOk};
+ghost use Rattle.std.specs.Prelude.{IfOk, map};
 ghost use Rattle.cg_io.specs.Memory.{device_of};
 ghost use Rattle.block_cache.specs.Cache.{IsCache};
+ghost use Rattle.layout_lint.specs.Walks.{node_place};
+ghost use Rattle.layout_lint.specs.Shapes.{AreLinked};
 
 use crate::images::Image;
 use crate::rules::verdict;
 use crate::samples::{Sample, image_of};
-use adf_model::AdfError;
+use adf_model::{AdfError, Text};
 use block_cache::BlockCache;
 use cg_io::MemoryDevice;
 use layout_lint::{
-    ExtentKind, Extents, Format, NodePlace, NodePlaces, OwnedExtents, Verdict, extents, lint,
-    owned_extents, path_of,
+    ExtentKind, Extents, Format, NodeNames, NodePlace, NodePlaces, OwnedExtents, Verdict, extents,
+    lint, path_of, survey,
 };
 use std::alloc::Global;
 use std::test::Fail;
@@ -219,9 +221,10 @@ const THREE_BLOCKS: [Piece; 8] = [
 #[derive(Drop)]
 struct Said {
     nodes: usize,
+    names: usize,
     owned: OwnedExtents,
     plain: Extents,
-    path: Vec<u8>,
+    path: Text,
 }
 
 type Cache = BlockCache<MemoryDevice>;
@@ -245,6 +248,21 @@ fn blocks_over(alloc: Global, image: Image, failing: u64) -> Result<Cache, AdfEr
     }
 }
 
+// The path of a node, if there is one with this number.
+fn path(
+    alloc: Global,
+    nodes: &NodePlaces,
+    names: &NodeNames,
+    number: u64,
+) -> Result<Text, AdfError>
+    requires { AreLinked (map node_place nodes.now) }
+{
+    if number >= nodes.items().len() as u64 || names.items().len() != nodes.items().len() {
+        return Err(AdfError::Memory);
+    }
+    path_of(alloc, nodes, names, number)
+}
+
 // All that can be asked of a sound file, with the path of one node.
 fn ask(alloc: Global, blocks: &mut Cache, number: u64) -> Result<Said, AdfError>
     requires { IsCache device_of blocks.old }
@@ -252,14 +270,15 @@ fn ask(alloc: Global, blocks: &mut Cache, number: u64) -> Result<Said, AdfError>
 {
     match lint(alloc, blocks)? {
         Verdict::Sound { nodes, gaps, .. } => {
-            let owned = owned_extents(alloc, blocks, &nodes, &gaps)?;
+            let found = survey(alloc, blocks, &nodes, &gaps)?;
             let plain = extents(alloc, blocks, &nodes, &gaps)?;
-            let path = path_of(alloc, blocks, &nodes, number)?;
+            let path = path(alloc, &nodes, &found.names, number)?;
             Ok(Said {
                 nodes: nodes.items().len(),
-                owned,
+                names: found.names.items().len(),
+                owned: found.extents,
                 plain,
-                path: path.into_items(),
+                path,
             })
         }
         Verdict::Unsound { rule, place } => Err(AdfError::Layout { rule, place }),
@@ -323,7 +342,7 @@ fn extents_of_sound_files(rt: HostRuntime) -> Result<(), Fail> {
 
 fn has_path(alloc: Global, sample: Sample, number: u64, wanted: &[u8]) -> bool {
     match asked(alloc, sample, number) {
-        Ok(said) => said.path.as_slice() == wanted,
+        Ok(said) => said.path.items() == wanted,
         Err(_) => false,
     }
 }
@@ -350,9 +369,10 @@ fn paths_of_nodes(rt: HostRuntime) -> Result<(), Fail> {
 // The nodes and the extents of a sound file, and whether the path of its last node is one.
 fn is_whole(said: &Said, nodes: usize, extents: usize) -> bool {
     said.nodes == nodes
+        && said.names == nodes
         && said.owned.items().len() == extents
         && said.plain.items().len() == extents
-        && said.path.first().copied() == Some(b'/')
+        && said.path.items().first().copied() == Some(b'/')
 }
 
 // How many reads all that is asked takes.

@@ -1,7 +1,7 @@
 use Rattle.std.proofs.Common.{◌∙◌, ◌+◌, ◌*◌, arith, map}
 use Rattle.adf_format.specs.FirstFault.{count_up}
 use Rattle.layout_lint.specs.Chunks.{chunk_entry_row}
-use Rattle.layout_lint.proofs.ReadLaws.{reads_then}
+use Rattle.cg_io.proofs.ReadLaws.{reads_then}
 use Rattle.layout_lint.proofs.RowSteps.{this_breaks, this_kept}
 use Rattle.layout_lint.proofs.chunks.look_at_chunk_entries.Goals as goal
 

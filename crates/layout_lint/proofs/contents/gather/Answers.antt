@@ -3,7 +3,7 @@ use Rattle.std.proofs.lemmas.List.Elements.{All-get_or}
 use Rattle.adf_format.specs.declared.types.Extent.{Extent}
 use Rattle.adf_format.specs.declared.types.ExtentKind.{ExtentKind}
 use Rattle.layout_lint.specs.Chunks.{IsChunk}
-use Rattle.layout_lint.proofs.ReadLaws.{reads_then}
+use Rattle.cg_io.proofs.ReadLaws.{reads_then}
 use Rattle.layout_lint.proofs.ContentLaws.{gather_step, gather_end}
 use Rattle.layout_lint.proofs.contents.gather.Goals as goal
 

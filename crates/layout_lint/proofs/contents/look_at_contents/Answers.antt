@@ -1,5 +1,5 @@
 use Rattle.std.proofs.Common.{◌∙◌, sym, arith}
-use Rattle.layout_lint.proofs.ReadLaws.{reads_more}
+use Rattle.cg_io.proofs.ReadLaws.{reads_more}
 use Rattle.layout_lint.proofs.ContentRows.{breaks_payload, breaks_link, keeps_contents, link_within, few_reads}
 use Rattle.layout_lint.proofs.contents.look_at_contents.Goals as goal
 

@@ -1,5 +1,5 @@
 use Rattle.std.proofs.Common.{sym, ◌∙◌, arith}
-use Rattle.layout_lint.proofs.ReadLaws.{reads_then, reads_none}
+use Rattle.cg_io.proofs.ReadLaws.{reads_then, reads_none}
 use Rattle.layout_lint.proofs.EntryLaws.{rows_start, names_more, entry_said, bad_entry, same_entry, good_entry}
 use Rattle.layout_lint.proofs.RowSteps.{no_value, some_value}
 use Rattle.layout_lint.proofs.entries.look_at_entries.Goals as goal

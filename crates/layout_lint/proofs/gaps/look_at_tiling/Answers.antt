@@ -1,7 +1,7 @@
 use Rattle.std.proofs.Common.{sym, refl, arith, ◌+◌, Some}
 use Rattle.std.proofs.lemmas.List.Sorted.{All-permutation}
 use Rattle.layout_lint.specs.Gaps.{IsSolid}
-use Rattle.layout_lint.proofs.ReadLaws.{reads_then, reads_none}
+use Rattle.cg_io.proofs.ReadLaws.{reads_then, reads_none}
 use Rattle.layout_lint.proofs.SetLaws.{blanks, told_blank, plainly, long, set_of}
 use Rattle.layout_lint.proofs.TilingLaws.{at_start, solid_here, next_here, stop_here, at_end, at_hole}
 use Rattle.layout_lint.proofs.gaps.look_at_tiling.Goals as goal

@@ -1,5 +1,5 @@
 use Rattle.std.proofs.Common.{◌∙◌, arith}
-use Rattle.layout_lint.proofs.ReadLaws.{reads_then}
+use Rattle.cg_io.proofs.ReadLaws.{reads_then}
 use Rattle.layout_lint.proofs.ShapeLaws.{adds_then}
 use Rattle.layout_lint.proofs.ListLaws.{come_on, come_to_fault}
 use Rattle.layout_lint.proofs.lists.look_at_list.Goals as goal

@@ -1,5 +1,5 @@
 use Rattle.std.proofs.Common.{◌+◌, ◌∙◌, ap, sym, refl}
-use Rattle.layout_lint.proofs.LookLaws.{header_is, breaks_header, breaks_count, breaks_children, breaks_data, keeps_node, leads_there, extents_added, solid_node, solid_table}
+use Rattle.layout_lint.proofs.LookLaws.{header_is, name_read, breaks_header, breaks_count, breaks_children, breaks_data, keeps_node, leads_there, extents_added, solid_node, solid_table}
 use Rattle.layout_lint.proofs.ShapeLaws.{node_added, adds_then, adds_more}
 use Rattle.layout_lint.proofs.look.look.Goals as goal
 
@@ -45,7 +45,7 @@ returns-in-Ok-look_at_data-clause-leads g c = λ image told long.
     let is = header_is image c.args.span.wide c.args.span.end c.args.known c.args.used c.args.met.now c.in-Ok.header header (c.in-Ok.ensures.says image told long) c.in-Ok.ensures.wide in
     let told_then = c.look_at_children.ensures.effect.held ∙ (c.look_at_header.ensures.effect.held ∙ told) in
     leads_there image c.args.span.wide c.args.met.now.place c.in-Ok.header is c.args.used (c.args.used + c.node_length-length.result) c.in-Ok-look_at_children.behind
-    (record { table = c.table_of.result; children = c.in-Ok.header.children; used = c.in-Ok-look_at_data.used }) (ap (λ t. t.place) c.table_of.ensures.value) refl (ap (λ k. c.args.used + k) c.node_length-length.ensures)
+    (record { table = c.table_of.result; children = c.in-Ok.header.children; used = c.in-Ok-look_at_data.used; name = c.in-Ok.header.name }) (ap (λ t. t.place) c.table_of.ensures.value) refl (ap (λ k. c.args.used + k) c.node_length-length.ensures)
     c.in-Ok-look_at_children.ensures.used (c.in-Ok-look_at_data.ensures.used image told_then long is)
 
 pub returns-in-Ok-look_at_data-clause-extents : goal.returns-in-Ok-look_at_data-clause-extents
@@ -66,3 +66,6 @@ pub returns-in-Ok-look_at_data-clause-adds : goal.returns-in-Ok-look_at_data-cla
 returns-in-Ok-look_at_data-clause-adds g c =
     node_added c.args.span.wide c.args.met.now.place c.node_length-length.result _ _ _ c.node_length-length.ensures c.in-Ok-add_extent.ensures.added
     (adds_then _ _ _ (adds_more _ _ _ c.in-Ok-look_at_children.ensures.extents) c.in-Ok-look_at_data.ensures.adds)
+
+pub returns-in-Ok-look_at_data-clause-named : goal.returns-in-Ok-look_at_data-clause-named
+returns-in-Ok-look_at_data-clause-named g c = λ image told long. name_read image c.args.span.wide c.args.met.now.place c.in-Ok.header (c.in-Ok.ensures.says image told long)

@@ -7,8 +7,12 @@ use Rattle.layout_lint.specs.Walks.{node_place}
 use Rattle.layout_lint.proofs.PathLaws.{IsClimbed}
 use Rattle.layout_lint.proofs.paths.numbers_up.Given as goal
 
-abbrev pub invariant-loop : goal.invariant-loop
-invariant-loop l = record {
+abbrev pub invariant-loop-at : goal.invariant-loop-at
+invariant-loop-at l = record {
+  inside : l.at < length l.nodes;
   there : All (λ (k : ℕ). k < length l.nodes) l.up.items;
-  climbed : (tree : Tree) (p : Placement) → IsTree tree → IsNumbered tree → ListsNodes tree p (map node_place l.nodes) → l.number < length l.nodes → IsClimbed tree (length l.nodes) l.number l.at l.counter l.up.items;
+  climbed : (tree : Tree) (p : Placement) → IsTree tree → IsNumbered tree → ListsNodes tree p (map node_place l.nodes) → IsClimbed tree l.number l.at l.up.items;
 }
+
+abbrev pub decreases-loop-at : goal.decreases-loop-at
+decreases-loop-at l = l.at

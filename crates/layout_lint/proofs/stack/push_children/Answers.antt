@@ -1,7 +1,7 @@
 use Rattle.std.proofs.Common.{◌∙◌, ◌+◌, ◌-◌, arith}
 use Rattle.layout_laws.specs.NodePass.{waiting_child}
 use Rattle.std.proofs.lemmas.Grind.{common_steps}
-use Rattle.layout_lint.proofs.ReadLaws.{reads_then, reads_none}
+use Rattle.cg_io.proofs.ReadLaws.{reads_then, reads_none}
 use Rattle.layout_lint.proofs.StackLaws.{put_child, all_put}
 use Rattle.layout_lint.proofs.ShapeLaws.{children_none, children_push}
 use Rattle.layout_lint.proofs.stack.push_children.Goals as goal

@@ -1,5 +1,5 @@
 use Rattle.std.proofs.Common.{refl, arith}
-use Rattle.layout_lint.proofs.ReadLaws.{reads_none}
+use Rattle.cg_io.proofs.ReadLaws.{reads_none}
 use Rattle.layout_lint.proofs.SearchLaws.{ends}
 use Rattle.layout_lint.proofs.ShapeLaws.{whole_found}
 use Rattle.layout_lint.proofs.walk.look_at_nodes.Goals as goal
