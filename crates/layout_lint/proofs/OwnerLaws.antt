@@ -258,7 +258,7 @@ module _ (image : List ℕ) (nodes : List code.NodePlace) (gaps : List Extent) (
             let n = node_at_place i is.parts.header is.stands in
             let h = here i n.0 n.1 in
             let same : node_extents laid.tree.wide is.parts ≡ node_extents laid.tree.wide h.parts =
-                sym (extents_held image laid.tree laid.placement laid.laid_out is.number is.parts is.has) ∙ ap (extents_at image laid.tree.wide) (sym n.2) ∙ h.extents in
+            sym (extents_held image laid.tree laid.placement laid.laid_out is.number is.parts is.has) ∙ ap (extents_at image laid.tree.wide) (sym n.2) ∙ h.extents in
             (h.parts, h.has, subst (λ xs. Contains xs e) same is.part)
 
     pub names_numbered : (names : List (List ℕ)) → length names ≡ length nodes → AreNamesAt laid.tree laid.placement places names → AreNames laid.tree names

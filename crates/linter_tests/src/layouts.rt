@@ -249,12 +249,7 @@ fn blocks_over(alloc: Global, image: Image, failing: u64) -> Result<Cache, AdfEr
 }
 
 // The path of a node, if there is one with this number.
-fn path(
-    alloc: Global,
-    nodes: &NodePlaces,
-    names: &NodeNames,
-    number: u64,
-) -> Result<Text, AdfError>
+fn path(alloc: Global, nodes: &NodePlaces, names: &NodeNames, number: u64) -> Result<Text, AdfError>
     requires { AreLinked (map node_place nodes.now) }
 {
     if number >= nodes.items().len() as u64 || names.items().len() != nodes.items().len() {
