@@ -1,16 +1,15 @@
 -- What calls that only ask leave, and why queries are refused.
 use Rattle.std.proofs.Common.{◌≡◌, ◌≢◌, ℕ, Bool, true, false, refl, sym, ◌∙◌, ap, subst, arith}
 use Rattle.std.specs.Prelude.{Option, Some, None, IsSome, IsTrue, Result, Ok, Err}
-use Rattle.adf_format.specs.Placement.{Placement}
 use Rattle.adf_format.specs.LaysOut.{LaysOut}
 use Rattle.adf_model.specs.declared.error.AdfError.{AdfError}
 use Rattle.adf_model.specs.declared.error.AdfError.TheVariants.{Memory, ReadFault, WriteFault, NotOpen, NoSuchFile, NoSuchNode, NotAChild, NoData, BadRange, LinkMissing, LinkChain, NotALink, Layout, TooLarge, NotFound, Full, OtherFile}
 use Rattle.adf_model.specs.declared.tree.Query.{Query}
 use Rattle.adf_model.specs.declared.tree.Reply.{Reply}
 use Rattle.adf_model.specs.Slots.{Slot, Files, Device, Devices, slot_at, device_at, is_gone, IsToldAt}
-use Rattle.adf_model.specs.Slots.Slot.{Gone, Raw, Saved, Live}
+use Rattle.adf_model.specs.Slots.Slot.{Saved, Live}
 use Rattle.adf_model.specs.Answers.{asked_node, goes_through_links, may_refuse}
-use Rattle.adf_model.specs.Steps.{OnlyRead, SomeFault, HasReadFault, HasReadCause, HasQueryCause, is_query_error, IsLaidOut, IsLaidOutAt}
+use Rattle.adf_model.specs.Steps.{SomeFault, HasReadFault, HasReadCause, HasQueryCause, is_query_error, IsLaidOut, IsLaidOutAt}
 use Rattle.adf_model.specs.Causes.{OnlyAsks}
 use Rattle.adf_model.specs.Runs.{KeepsLayouts}
 use Rattle.adf_model.proofs.Basics.{not_true}

@@ -1,6 +1,6 @@
 -- A group of edits behind calls that only ask may do what it may do without them.
-use Rattle.std.proofs.Common.{◌≡◌, ◌≢◌, ◌⊎◌, inl, inr, ℕ, ◌+◌, ◌≤◌, List, refl, sym, ◌∙◌, ap, subst, arith}
-use Rattle.std.specs.Prelude.{Option, Some, None, IsSome, IfSome, IfOk, is_some, take, Result, Ok, Err}
+use Rattle.std.proofs.Common.{◌≡◌, ◌≢◌, inl, inr, ℕ, ◌+◌, ◌≤◌, List, ◌∙◌, ap, subst, arith}
+use Rattle.std.specs.Prelude.{Option, Some, None, IfSome, IfOk, is_some, take, Result, Ok, Err}
 use Rattle.adf_format.specs.Placement.{Placement}
 use Rattle.adf_model.specs.declared.error.AdfError.{AdfError}
 use Rattle.adf_model.specs.declared.error.AdfError.TheVariants.{Memory, ReadFault, WriteFault, Full}
@@ -8,13 +8,13 @@ use Rattle.adf_model.specs.declared.error.EditError.{EditError}
 use Rattle.adf_model.specs.declared.tree.Edit.{Edit}
 use Rattle.adf_model.specs.declared.tree.NodeId.{NodeId}
 use Rattle.adf_model.specs.Placing.{place_group, group_cost}
-use Rattle.adf_model.specs.Slots.{Open, Files, Device, Devices, device_at, open_at, recorded_end, end_of_held, IsTold}
+use Rattle.adf_model.specs.Slots.{Open, Files, Devices, device_at, open_at, recorded_end, end_of_held}
 use Rattle.adf_model.specs.Calls.{Group, edit_group}
 use Rattle.adf_model.specs.Torn.{TornGroup}
 use Rattle.adf_model.specs.Untouched.{KeepsRest, KeepsTail}
-use Rattle.adf_model.specs.Steps.{Rose, OnlyRead, NoneFell, OthersOnlyRead, OthersStayPlaced, WriteFailed, SomeOpenFault, HasGroupCause, HasCauseOf, Refused, CommitStops, WriteStops, IsGroupRefusal, IsEdit, OfGroup, HaveRoom, IsWithinCost, IsPlaced, IsOverLimit, IsPlacedRefusal, IsPlacedGroup, LeavesUntouched, IsUntouchedGroup, Changed, Step}
+use Rattle.adf_model.specs.Steps.{Rose, OnlyRead, OthersOnlyRead, OthersStayPlaced, WriteFailed, SomeOpenFault, HasGroupCause, HasCauseOf, Refused, WriteStops, IsGroupRefusal, IsEdit, OfGroup, HaveRoom, IsWithinCost, IsPlaced, IsOverLimit, IsPlacedRefusal, IsPlacedGroup, LeavesUntouched, IsUntouchedGroup, Changed}
 use Rattle.adf_model.specs.Causes.{OnlyAsks, RefusalLeaves, GroupLeaves, ChangedAnyway}
-use Rattle.adf_model.specs.Runs.{KeepsLayouts, EditsTold, IsToldFor, Makes}
+use Rattle.adf_model.specs.Runs.{KeepsLayouts, IsToldFor, Makes}
 use Rattle.adf_model.proofs.Asking.{told-stays}
 use Rattle.adf_model.proofs.AskLaws.{asks_keep}
 

@@ -10,6 +10,7 @@ use Rattle.adf_model.specs.declared.tree.Edit.TheVariants.{Create, Delete, Renam
 use Rattle.adf_model.specs.declared.tree.NodeId.{NodeId}
 use Rattle.adf_model.specs.Edits.{apply, named_nodes, followed, IsReached, reach_tests, file_step, Work, file_group_from, file_group, created_by, at_edit}
 use Rattle.adf_model.proofs.Basics.{or_none, not_false, passed, same_Ok, same_Some, not_Err}
+use Rattle.adf_model.proofs.StepTests.{step_tests}
 use Rattle.adf_model.proofs.Keeps.{set_label_keeps}
 use Rattle.adf_model.proofs.CreateKeeps.{create_keeps}
 use Rattle.adf_model.proofs.LinkKeeps.{link_keeps}
@@ -55,7 +56,7 @@ followed_live tree (Link at wanted file path) e node f = at_followed tree at nod
 -- one edit of one file keeps the tree sound
 pub file_step_keeps : (tree after : Tree) (writable : Bool) (edit : Edit) → IsTree tree → file_step writable tree edit ≡ Ok after → IsTree after
 file_step_keeps tree after writable edit is e =
-    let all = passed (reach_tests tree edit ++ (not writable, AdfError.ReadOnly) ∷ []) (apply tree edit) after e in
+    let all = passed (reach_tests tree edit ++ (not writable, AdfError.ReadOnly) ∷ []) (apply tree edit) after (sym (step_tests writable tree edit) ∙ e) in
     apply_keeps tree after edit is (record { live = followed_live tree edit all.0.0; no_link = all.0.1.0 }) all.1
 
 -- and so does a group

@@ -1,6 +1,6 @@
 -- What a failed commit leaves: no more of the file is lost than the one block that was being written.
-use Rattle.std.proofs.Common.{◌≡◌, ◌≢◌, ◌⊎◌, inl, inr, ℕ, zero, suc, ◌+◌, ◌-◌, ◌*◌, ◌/◌, ◌<◌, ◌≤◌, max, arith, Bool, List, [], ◌∷◌, ◌++◌, length, get_or, refl, sym, ◌∙◌, ap, subst, cond}
-use Rattle.std.specs.Prelude.{Option, Some, None, IfSome, IfOk, slice_get, Result, Ok, Err}
+use Rattle.std.proofs.Common.{◌≡◌, ◌⊎◌, inl, inr, ℕ, zero, suc, ◌+◌, ◌-◌, ◌*◌, ◌/◌, ◌<◌, ◌≤◌, max, arith, List, [], ◌∷◌, length, get_or, sym, ◌∙◌, ap, subst, cond}
+use Rattle.std.specs.Prelude.{Option, Some, IfSome, IfOk, slice_get, Ok, Err}
 use Rattle.std.specs.List.{Contains}
 use Rattle.std.proofs.lemmas.List.Elements.{Contains-append_cases}
 use Rattle.adf_format.specs.declared.types.Extent.{Extent}
@@ -11,14 +11,13 @@ use Rattle.adf_format.specs.Placement.{Placement, live_extents}
 use Rattle.adf_format.specs.LaysOut.{LaysOut}
 use Rattle.adf_format.proofs.FieldLaws.{get_field}
 use Rattle.adf_model.specs.declared.error.AdfError.TheVariants.{WriteFault}
-use Rattle.adf_model.specs.declared.error.EditError.{EditError}
 use Rattle.adf_model.specs.declared.tree.Edit.{Edit}
 use Rattle.adf_model.specs.Slots.{Open, Slot, Files, Devices, device_at, open_at, slot_at}
 use Rattle.adf_model.specs.Calls.{Group, edit_group}
 use Rattle.adf_model.specs.Torn.{TornAt, Torn, TornGroup}
 use Rattle.adf_model.specs.Untouched.{StaysBut, StaysBeside, group_touched}
 use Rattle.adf_model.specs.Steps.{OfGroup, LeavesBesideBlock, AllLaidOut, IsLaidOut, IsEdit}
-use Rattle.adf_model.proofs.Basics.{same_Ok, same_Some}
+use Rattle.adf_model.proofs.Basics.{same_Some}
 use Rattle.adf_model.proofs.LayoutLemmas.{live_slot}
 use Rattle.adf_model.proofs.PartsApart.{cover_all, range_in}
 use Rattle.adf_model.proofs.TornTail.{nat_cases, sides, byte_written, byte_unwritten, there_too}

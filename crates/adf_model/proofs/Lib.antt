@@ -17,6 +17,7 @@ pub mod AncestorLemmas
 pub mod DeleteKeeps
 pub mod MoveKeeps
 pub mod PartKeeps
+pub mod StepTests
 pub mod EditsKeep
 pub mod GroupKeeps
 pub mod LayoutLemmas

@@ -19,6 +19,7 @@ use Rattle.adf_model.specs.Calls.{Group, is_live_in, tests_at_entry, resolved, r
 use Rattle.adf_model.specs.OneFile.{StandsIn, outcome_of_group, outcome_of_work}
 use Rattle.adf_model.proofs.Basics.{not_there, not_false, or_none, same_Some, same_Ok, done}
 use Rattle.adf_model.proofs.LayoutLemmas.{live_slot}
+use Rattle.adf_model.proofs.StepTests.{followed_same, step_tests}
 use Rattle.adf_model.proofs.FollowLaws.{follow-step}
 use Rattle.adf_model.proofs.GroupKeeps.{resolve_reaches, reached_in_tree, followed_live}
 
@@ -57,18 +58,6 @@ last_test one two three four last e f g h r =
 
 equals_itself : (n : ℕ) → (n == n) ≡ true
 equals_itself n = elim (eqb_tells n n) [ inl e ↦ e.0 | inr e ↦ absurd (e.1 refl) ]
-
--- an edit is the same with its own followed node
-followed_same : (edit : Edit) (node : NodeId) → followed edit ≡ Some node → with_followed edit node ≡ edit
-followed_same (Create at wanted label) node e = ap (λ n. Create n wanted label) (sym (same_Some at node e))
-followed_same (Delete at) node e = absurd (not_there node e)
-followed_same (Rename at wanted) node e = absurd (not_there node e)
-followed_same (Move at to) node e = ap (λ n. Move at n) (sym (same_Some to node e))
-followed_same (SetLabel at label) node e = ap (λ n. SetLabel n label) (sym (same_Some at node e))
-followed_same (SetDims at shape) node e = ap (λ n. SetDims n shape) (sym (same_Some at node e))
-followed_same (PutAll at given) node e = ap (λ n. PutAll n given) (sym (same_Some at node e))
-followed_same (PutPart at selection given) node e = ap (λ n. PutPart n selection given) (sym (same_Some at node e))
-followed_same (Link at wanted file path) node e = ap (λ n. Link n wanted file path) (sym (same_Some at node e))
 
 -- it stands in the file
 followed_in : (number : ℕ) (edit : Edit) (node : NodeId) → StandsIn number edit → followed edit ≡ Some node → node.file ≡ number
@@ -207,8 +196,9 @@ module _ (group : Group) (number : ℕ) (opened : Open) (here : open_at group.fi
   pub one_step_as_many : (edit : Edit) → StandsIn number edit → file_step opened.writable opened.tree edit ≢ Err LinkMissing → group_step group edit ≡ and_then (file_step opened.writable opened.tree edit) (made edit)
   one_step_as_many edit stands no_link =
       entry_tests group.files number opened here (named_nodes edit) stands (and_then (resolve group.files edit) (λ reached. edit_reached group reached))
-      ∙ tests_in_order edit (dead_named edit) (names_link opened.tree (followed edit)) stands refl no_link
+      ∙ tests_in_order edit (dead_named edit) (names_link opened.tree (followed edit)) stands refl (λ e. no_link (step_tests opened.writable opened.tree edit ∙ e))
       ∙ sym (checked_then ((dead_named edit, NoSuchNode) ∷ (names_link opened.tree (followed edit), LinkMissing) ∷ (not opened.writable, ReadOnly) ∷ []) (apply opened.tree edit) (made edit))
+      ∙ sym (ap (λ r. and_then r (made edit)) (step_tests opened.writable opened.tree edit))
 
 -- a group that has no file yet, or this one
 pub in_its_file : (group : Group) (number : ℕ) (opened : Open) (edit : Edit) → open_at group.files number ≡ Some opened → (group.file ≡ None) ⊎ (group.file ≡ Some number) → StandsIn number edit → file_step opened.writable opened.tree edit ≢ Err LinkMissing
@@ -351,6 +341,7 @@ module _ (group : Group) (number : ℕ) (opened : Open) (edit reached : Edit) (t
       ∙ ap (λ b. checked ((b, LinkMissing) ∷ (not opened.writable, ReadOnly) ∷ []) (and_then (apply opened.tree reached) (λ tree. Ok (group_after group number opened reached tree)))) in_tree.no_link)
       ∙ sym (checked_then ((list_any (λ (node : NodeId). not (is_live opened.tree node.serial)) (named_nodes reached), NoSuchNode) ∷ (names_link opened.tree (followed reached), LinkMissing) ∷ (not opened.writable, ReadOnly) ∷ []) (apply opened.tree reached)
       (λ tree. Ok (group_after group number opened reached tree)))
+      ∙ sym (ap (λ r. and_then r (λ tree. Ok (group_after group number opened reached tree))) (step_tests opened.writable opened.tree reached))
 
 -- ---- a group
 

@@ -1,15 +1,14 @@
 -- The parts of different nodes of a file meet nowhere, and no part meets the gaps or the head of the file.
-use Rattle.std.proofs.Common.{◌≡◌, ◌≢◌, ◌⊎◌, inl, inr, ℕ, zero, suc, refl, ◌∙◌, ap, subst, arith, List, [], ◌∷◌, ◌++◌, length, get_or, ◌+◌, ◌-◌, ◌<◌, ◌≤◌, Bool, true, false}
+use Rattle.std.proofs.Common.{◌≡◌, ◌≢◌, ◌⊎◌, inl, inr, ℕ, zero, suc, refl, ◌∙◌, ap, subst, arith, List, [], ◌∷◌, ◌++◌, length, get_or, ◌+◌, ◌-◌, ◌<◌, ◌≤◌, Bool}
 use Rattle.std.proofs.lemmas.Bool.Decides.{nat_tests, leb_tells}
 use Rattle.std.specs.Prelude.{Option, Some, None, slice_set}
-use Rattle.std.specs.List.{AllByRecursion, flat_map}
+use Rattle.std.specs.List.{flat_map}
 use Rattle.adf_format.specs.declared.types.Extent.{Extent}
 use Rattle.adf_format.specs.declared.types.ExtentKind.{ExtentKind}
-use Rattle.adf_format.specs.Fields.{field}
 use Rattle.adf_format.specs.Tree.{Tree, Node, node_at}
 use Rattle.adf_format.specs.Tiles.{Tiles, cover, end_of}
-use Rattle.adf_format.specs.Parts.{node_length, SpellsChunk}
-use Rattle.adf_format.specs.Placement.{Placement, NodeParts, TablePart, ChunkPart, extent, parts_of, head_extents, live_extents, all_extents, extents_of, node_extents, table_extents, chunk_table_extents, chunk_extents}
+use Rattle.adf_format.specs.Parts.{node_length}
+use Rattle.adf_format.specs.Placement.{Placement, NodeParts, extent, parts_of, head_extents, live_extents, all_extents, extents_of, node_extents, table_extents, chunk_table_extents, chunk_extents}
 use Rattle.adf_format.specs.LaysOut.{LaysOut}
 use Rattle.adf_format.specs.Changes.{AllApart, heap_fields}
 use Rattle.adf_format.proofs.BehindEnd.{AllLong, long_chunk_table, long_chunks, long_node}

@@ -1,5 +1,5 @@
 -- What holds of each state of a run, and what a fresh file is.
-use Rattle.std.proofs.Common.{◌≡◌, ◌≢◌, ◌⊎◌, inl, inr, ℕ, zero, suc, ◌+◌, ◌<◌, ◌≤◌, arith, Bool, true, false, not, List, [], ◌∷◌, ◌++◌, length, length-append, refl, sym, ◌∙◌, ap, subst}
+use Rattle.std.proofs.Common.{◌≡◌, ◌⊎◌, inl, inr, ℕ, zero, suc, ◌<◌, arith, Bool, true, false, not, List, [], ◌∷◌, ◌++◌, length, length-append, refl, sym, ◌∙◌, ap, subst}
 use Rattle.std.specs.Prelude.{Option, Some, None, IsSome, is_some, option_map, Result, Ok, Err}
 use Rattle.std.proofs.lemmas.Bool.Decides.{eqb_tells}
 use Rattle.adf_format.specs.Fresh.{fresh_text, fresh_block, fresh_end, fresh_placement}
@@ -10,12 +10,11 @@ use Rattle.adf_model.specs.declared.tree.Edit.{Edit}
 use Rattle.adf_model.specs.Tests.{first_refusal}
 use Rattle.adf_model.specs.Slots.{Open, Slot, Files, Device, Devices, slot_at, device_at, open_of, open_at, with_slot, is_gone, is_open, recorded_end, IsToldAt, IsTold}
 use Rattle.adf_model.specs.Slots.Slot.{Gone, Raw, Saved, Live}
-use Rattle.adf_model.specs.Steps.{AllLaidOut, IsLaidOut, IsLaidOutAt, OthersOnlyRead, Fresh, Opens, IsFirstOr, IsOpenRefusal, IsOpening, IsClose, closed, close_tests, open_tests, WriteStops, Call, Opened, Closed, Discarded, Asked, Changed, Skipped, Misread, Step}
+use Rattle.adf_model.specs.Steps.{AllLaidOut, IsLaidOut, Fresh, IsFirstOr, IsOpenRefusal, IsOpening, closed, open_tests, WriteStops, Call, Opened, Closed, Discarded, Asked, Changed, Skipped, Misread, Step}
 use Rattle.adf_model.specs.Runs.{IsToldFor, Run}
 use Rattle.adf_model.proofs.StandingLaws.{not_gone}
 use Rattle.adf_model.proofs.Basics.{not_true, not_there, same_Some}
 use Rattle.adf_model.proofs.LayoutLemmas.{live_slot, end_of_open}
-use Rattle.adf_model.proofs.TornTail.{nat_cases, sides}
 
 -- ---- all states
 

@@ -19,6 +19,7 @@ use Rattle.adf_model.specs.Slots.{Open, Slot, Standing, Files, Device, Devices, 
 use Rattle.adf_model.specs.Slots.Slot.{Gone, Raw, Saved, Live}
 use Rattle.adf_model.specs.Steps.{Rose, WriteFailed, OthersOnlyRead, OthersStayPlaced, Opening, Fresh, Stored, IsFirstOr, IsOpenRefusal, Opens, IsOpening, IsClose, IsDiscard, DropsOne, closed, open_tests, placed_anew, IsFileRefusal, IsLineError}
 use Rattle.adf_model.specs.Causes.{OpensStanding, standing_by, IsOpenCause, HasOpenCause, OpeningWrites, OpenedAnyway, MovesStanding, ClosedAnyway, DiscardedAnyway, RefusalLeaves, GroupLeaves}
+use Rattle.adf_model.proofs.StepTests.{step_tests}
 use Rattle.adf_model.proofs.Basics.{not_true, not_there, same_Some, same_Ok, not_Err}
 use Rattle.adf_model.proofs.DifferLemmas.{bytes_eq_same}
 
@@ -303,7 +304,7 @@ pub entry_refuses : (broken writable : Bool) (limit : ℕ) (tree : Tree) (p : Pl
 entry_refuses broken writable limit tree p edit first error e h = by_error error h
   where
     refused : checked ((broken, AdfError.Broken) ∷ []) (file_step writable tree edit) ≡ Err first
-    refused = refused_step broken (list_any (λ (node : NodeId). not (is_live tree node.serial)) (named_nodes edit))
+    refused = ap (checked ((broken, AdfError.Broken) ∷ [])) (step_tests writable tree edit) ∙ refused_step broken (list_any (λ (node : NodeId). not (is_live tree node.serial)) (named_nodes edit))
         ((names_link tree (followed edit), AdfError.LinkMissing) ∷ (not writable, AdfError.ReadOnly) ∷ []) (apply tree edit) first e
 
     by_error : (error : AdfError) → IsFileRefusal broken writable limit tree p edit error → (error ≡ Memory) ⊎ (error ≡ first)

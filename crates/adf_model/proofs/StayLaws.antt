@@ -56,7 +56,7 @@ entry_first files query error result e h =
 
 -- the answer of one file is refused as its entry is
 file_refused : (broken live : Bool) (error : AdfError) (reply : Result Reply AdfError) → first_refusal ((broken, AdfError.Broken) ∷ (live || false, AdfError.NoSuchNode) ∷ []) ≡ Some error
-    → checked ((broken, AdfError.Broken) ∷ []) (checked ((live, AdfError.NoSuchNode) ∷ []) reply) ≡ Err error
+    → checked ((broken, AdfError.Broken) ∷ []) (checked ((live || false, AdfError.NoSuchNode) ∷ []) reply) ≡ Err error
 file_refused true live error reply e = ap Err (same_Some AdfError.Broken error e)
 file_refused false true error reply e = ap Err (same_Some AdfError.NoSuchNode error e)
 file_refused false false error reply e = absurd (not_there error e)

@@ -1,5 +1,5 @@
 -- Single bytes of a file after a write that failed, by the blocks that they stand in.
-use Rattle.std.proofs.Common.{◌≡◌, ◌≢◌, ◌⊎◌, inl, inr, ℕ, zero, suc, ◌+◌, ◌-◌, ◌*◌, ◌/◌, ◌<◌, ◌≤◌, arith, List, ◌++◌, length, take, drop, get_or, refl, sym, ◌∙◌, ap, length-take, length-drop}
+use Rattle.std.proofs.Common.{◌≡◌, ◌≢◌, ◌⊎◌, inl, inr, ℕ, zero, suc, ◌+◌, ◌-◌, ◌*◌, ◌/◌, ◌<◌, ◌≤◌, arith, List, length, take, drop, get_or, refl, sym, ◌∙◌, ap, length-take, length-drop}
 use Rattle.std.specs.Prelude.{Some, slice_get, slice_index_or, replicate}
 use Rattle.std.proofs.lemmas.Bool.Decides.{leb_tells}
 use Rattle.std.proofs.lemmas.List.{get_or-take, get_or-drop, get_or_append_left, get_or-append_right, get_or_past}

@@ -12,7 +12,8 @@ use Rattle.adf_model.specs.declared.tree.Selection.{Selection}
 use Rattle.adf_model.specs.declared.tree.Shape.{Shape}
 use Rattle.adf_format.specs.Names.{is_name, is_label, is_same_type, element_size, data_size, is_mt, is_lk}
 use Rattle.adf_model.specs.Shapes.{is_shape, dims_of}
-use Rattle.adf_model.specs.Tests.{Test, checked, if_there}
+use Rattle.adf_model.specs.Tests.{Test, checked, and_then, if_there}
+use Rattle.adf_model.specs.Follow.{Follower, reach_by, stay}
 use Rattle.adf_format.specs.Tree.{Node, Tree, next_serial, node_at, is_live, children_at, name_at, is_link_in, parent_of, depth_of, is_within, subtree, first_named, erased_from}
 use Rattle.adf_format.specs.Links.{is_link_file, is_link_path, link_text}
 use Rattle.adf_model.specs.Selection.{selection_fits, elements, with_elements}
@@ -216,20 +217,41 @@ pub record IsReached (tree : Tree) (edit : Edit) : Type 0 where
   pub live : (node : NodeId) → followed edit ≡ Some node → IsSome (node_at tree node.serial)
   pub no_link : names_link tree (followed edit) ≡ false
 
+-- ---- an edit through links
+
+abbrev pub resolved_by : Follower → Edit → Option NodeId → Result Edit AdfError
+resolved_by follow edit None = Ok edit
+resolved_by follow edit (Some node) = and_then (reach_by follow node) (λ there. Ok (with_followed edit there))
+
+-- the edit with the node that a follower leads to
+abbrev pub resolve_by : Follower → Edit → Result Edit AdfError
+resolve_by follow edit = resolved_by follow edit (followed edit)
+
+-- an edit whose nodes pass these tests, of the node that a follower leads to: over many files and within one
+abbrev pub edit_by : {A : Type 0} → (List NodeId → List Test) → Follower → (Edit → Result A AdfError) → Edit → Result A AdfError
+edit_by tests follow done edit = checked (tests (named_nodes edit)) (and_then (resolve_by follow edit) done)
+
+-- ---- one file
+
+-- each node is live
+abbrev pub live_tests : Tree → List NodeId → List Test
+live_tests tree nodes = (list_any (λ node. not (is_live tree node.serial)) nodes, NoSuchNode) ∷ []
+
 -- the refusals of one file that come before it reads anything: an earlier write failed, or a named node is not live
 abbrev pub file_tests_at_entry : Bool → Tree → List NodeId → List Test
-file_tests_at_entry broken tree nodes = (broken, AdfError.Broken) ∷ (list_any (λ node. not (is_live tree node.serial)) nodes, NoSuchNode) ∷ []
+file_tests_at_entry broken tree nodes = (broken, AdfError.Broken) ∷ live_tests tree nodes
 
--- within one file no link is followed: one that is named where links are followed is refused
-abbrev pub reach_tests : Tree → Edit → List Test
-reach_tests tree edit =
-    (list_any (λ node. not (is_live tree node.serial)) (named_nodes edit), NoSuchNode)
-    ∷ (names_link tree (followed edit), LinkMissing)
-    ∷ []
+-- an edit of these very nodes, where the file may be edited
+abbrev pub apply_where : Bool → Tree → Edit → Result Tree AdfError
+apply_where writable tree edit = checked ((not writable, ReadOnly) ∷ []) (apply tree edit)
 
--- one edit of one file
+-- one edit of one file, within which no link is followed
 abbrev pub file_step : Bool → Tree → Edit → Result Tree AdfError
-file_step writable tree edit = checked (reach_tests tree edit ++ (not writable, ReadOnly) ∷ []) (apply tree edit)
+file_step writable tree edit = edit_by (live_tests tree) (stay tree) (apply_where writable tree) edit
+
+-- what this tests, in order: a node that is named where links are followed is no link
+abbrev pub reach_tests : Tree → Edit → List Test
+reach_tests tree edit = live_tests tree (named_nodes edit) ++ (names_link tree (followed edit), LinkMissing) ∷ []
 
 -- a tree, and the nodes that were made on the way to it
 pub record Work : Type 0 where

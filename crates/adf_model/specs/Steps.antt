@@ -21,7 +21,7 @@ use Rattle.adf_model.specs.Untouched.{StaysBeside, KeepsRest, KeepsTail, group_t
 use Rattle.adf_model.specs.Torn.{TornAt, TornGroup}
 use Rattle.adf_model.specs.Slots.{Open, Slot, Standing, standing_of, Files, slot_at, is_gone, is_open, open_at, with_slot, Device, Devices, device_at, recorded_end}
 use Rattle.adf_model.specs.Slots.Slot.{Gone, Raw, Saved, Live}
-use Rattle.adf_model.specs.Calls.{tests_of_files, Group, tests_at_entry, edit_group}
+use Rattle.adf_model.specs.Calls.{Group, tests_at_entry, edit_group}
 use Rattle.adf_model.specs.Answers.{answer, refusal_at_entry, file_answer, asked_node, goes_through_links, may_refuse}
 
 -- a count rose: it is higher, or stands at the end of its type
