@@ -60,6 +60,8 @@ pub mod UntouchedParts
 pub mod GroupStands
 pub mod TornTail
 pub mod OneFileLaws
+pub mod FileGroupLaws
+pub mod QueryAsMany
 pub mod FaultBound
 pub mod WalkCounts
 pub mod WalkNodes

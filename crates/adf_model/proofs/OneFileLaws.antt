@@ -89,21 +89,21 @@ first_in number (PutAll n given) s = s.0
 first_in number (PutPart n selection given) s = s.0
 first_in number (Link n wanted file path) s = s.0
 
-no_text : (o : Option Node) → is_link_in o ≡ false → text_in o ≡ None
+pub no_text : (o : Option Node) → is_link_in o ≡ false → text_in o ≡ None
 no_text None e = refl
 no_text (Some node) e = ap (λ b. if b then node.bytes else None) e
 
 -- ---- one open file
 
 module _ (files : Files) (number : ℕ) (opened : Open) (here : open_at files number ≡ Some opened) where
-  opened_at : (node : NodeId) → node.file ≡ number → open_at files node.file ≡ Some opened
+  pub opened_at : (node : NodeId) → node.file ≡ number → open_at files node.file ≡ Some opened
   opened_at node e = ap (open_at files) e ∙ here
 
   slot_of_node : (node : NodeId) → node.file ≡ number → slot_at files node.file ≡ Live opened
   slot_of_node node e = live_slot (slot_at files node.file) opened (opened_at node e)
 
   -- at entry it matters only whether the nodes are live
-  entry_tests : {A : Type 0} (nodes : List NodeId) → AllIn number nodes → (r : Result A AdfError)
+  pub entry_tests : {A : Type 0} (nodes : List NodeId) → AllIn number nodes → (r : Result A AdfError)
       → checked (tests_at_entry files nodes) r ≡ checked ((list_any (λ (node : NodeId). not (is_live opened.tree node.serial)) nodes, NoSuchNode) ∷ []) r
   entry_tests nodes all r =
       last_test (list_any (λ (node : NodeId). is_gone (slot_at files node.file)) nodes) (list_any (λ (node : NodeId). not (is_open (slot_at files node.file))) nodes)
@@ -116,7 +116,7 @@ module _ (files : Files) (number : ℕ) (opened : Open) (here : open_at files nu
       r
 
   -- a node that is no link is reached at once
-  reach_plain : (node : NodeId) → node.file ≡ number → is_link_in (node_at opened.tree node.serial) ≡ false → reach files node ≡ Ok node
+  pub reach_plain : (node : NodeId) → node.file ≡ number → is_link_in (node_at opened.tree node.serial) ≡ false → reach files node ≡ Ok node
   reach_plain node file plain =
       let text : link_text_at files node ≡ None = ap (λ o. text_of_open o node.serial) (opened_at node file) ∙ no_text (node_at opened.tree node.serial) plain in
       ap (λ r. and_then r (λ spot. Ok spot.node)) (follow-step files node 100 (hundred 100)) ∙ ap (λ t. and_then (follow_text (follow files) files node t node 100) (λ spot. Ok spot.node)) text

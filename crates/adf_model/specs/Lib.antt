@@ -15,6 +15,7 @@ pub mod Torn
 pub mod Steps
 pub mod Causes
 pub mod OneFile
+pub mod FileGroup
 pub mod Runs
 pub mod Costs
 pub mod Creation

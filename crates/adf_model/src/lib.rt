@@ -11,6 +11,7 @@ pub mod data_laws;
 pub mod edit_laws;
 mod error;
 pub mod fault_laws;
+pub mod file_group_laws;
 pub mod laws;
 mod lists;
 pub mod one_file_laws;

@@ -4,6 +4,8 @@ ghost use Rattle.std.specs.Prelude.{◌≡◌, ◌≢◌, ◌⊎◌, ℕ, List, 
 ghost use Rattle.std.specs.List.{AllByRecursion};
 ghost use Rattle.adf_model.specs.declared.error.AdfError.{AdfError};
 ghost use Rattle.adf_model.specs.declared.tree.Edit.{Edit};
+ghost use Rattle.adf_model.specs.declared.tree.Query.{Query};
+ghost use Rattle.adf_model.specs.Answers.{asked_node, file_answer, answer};
 ghost use Rattle.adf_model.specs.Tests.{first_refusal, and_then};
 ghost use Rattle.adf_model.specs.Edits.{named_nodes, file_step, file_group};
 ghost use Rattle.adf_model.specs.Slots.{Open, Files, AreTrees, open_at};
@@ -23,4 +25,11 @@ pub fn one_file_as_many()
     ensures group { (files : Files) (number : ℕ) (opened : Open) (edits : List Edit) → open_at files number ≡ Some opened → AllByRecursion (StandsIn number) edits →
         ((at : ℕ) → file_group opened.writable opened.tree edits ≢ Err (record { at = at; error = AdfError.LinkMissing })) →
         outcome_of_group (edit_group files edits) ≡ outcome_of_work files number opened (file_group opened.writable opened.tree edits) }
+{}
+
+/// So it is for a query about a node of one open file that meets no link: it is answered among many files
+/// as it is answered on that file's tree.
+pub fn one_query_as_many()
+    ensures { (files : Files) (number : ℕ) (opened : Open) (query : Query) → open_at files number ≡ Some opened → (asked_node query).file ≡ number →
+        file_answer opened.tree query ≢ Err AdfError.LinkMissing → answer files query ≡ file_answer opened.tree query }
 {}

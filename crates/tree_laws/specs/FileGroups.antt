@@ -15,7 +15,8 @@ use Rattle.adf_model.specs.Calls.{Group, edit_group}
 use Rattle.adf_model.specs.OneFile.{StandsIn}
 use Rattle.adf_model.specs.Steps.{IsLaidOut, RoomStops}
 use Rattle.tree_laws.specs.Plans.{end_of_plan, plan_edit}
-use Rattle.tree_laws.specs.Groups.{tree_left, group_need, AreDone, done_by, place_plans}
+use Rattle.adf_model.specs.FileGroup.{done_by}
+use Rattle.tree_laws.specs.Groups.{tree_left, group_need, AreDone, place_plans}
 
 -- a group was done in the tree of its file: its edits one after another, and what it needed is the sum of their needs
 pub record IsDoneIn (group : Group) (number : ℕ) (opened : Open) : Type 0 where

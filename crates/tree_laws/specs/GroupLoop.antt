@@ -10,7 +10,8 @@ use Rattle.adf_model.specs.Need.{cost}
 use Rattle.adf_model.specs.Placing.{placed_as, place_group, chunk_number, group_cost}
 use Rattle.adf_model.specs.Untouched.{touched_extents, group_touched, group_shaped}
 use Rattle.tree_laws.specs.Leaving.{Leaves}
-use Rattle.tree_laws.specs.Groups.{done_by, group_need}
+use Rattle.adf_model.specs.FileGroup.{done_by}
+use Rattle.tree_laws.specs.Groups.{group_need}
 use Rattle.tree_laws.specs.Tails.{KeepsTail}
 
 -- an edit of one file was done: its tree and its placement, what it leaves and the bytes behind the end

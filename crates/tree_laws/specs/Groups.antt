@@ -8,6 +8,7 @@ use Rattle.adf_model.specs.declared.error.AdfError.{AdfError}
 use Rattle.adf_model.specs.declared.tree.Edit.{Edit}
 use Rattle.adf_model.specs.Tests.{and_then}
 use Rattle.adf_model.specs.Edits.{Work, IsReached, apply, at_edit, created_by, file_step, file_group}
+use Rattle.adf_model.specs.FileGroup.{done_by}
 use Rattle.adf_model.specs.Need.{need, cost}
 use Rattle.adf_model.specs.Placing.{placed_as, place_group, chunk_number, group_cost}
 use Rattle.adf_model.specs.Untouched.{touched_extents, group_touched, group_shaped}
@@ -34,16 +35,6 @@ group_need tree (e ∷ done) = need tree e.0 + group_need e.1 done
 abbrev pub AreDone : Tree → List (Edit × Tree) → Type 0
 AreDone tree [] = ⊤
 AreDone tree (e ∷ done) = IsReached tree e.0 × (apply tree e.0 ≡ Ok e.1) × AreDone e.1 done
-
--- the edits of one file that are done before the first that is refused
-abbrev pub done_then : Result Tree AdfError → (Tree → List (Edit × Tree)) → List (Edit × Tree)
-done_then (Ok tree) next = next tree
-done_then (Err error) next = []
-
-abbrev pub done_by : Bool → Tree → List Edit → List (Edit × Tree)
-done_by writable tree [] = []
-done_by writable tree (edit ∷ edits) = done_then (file_step writable tree edit)
-    (λ (after : Tree). (edit, after) ∷ done_by writable after edits)
 
 -- the placement by plans: after each edit what it takes stands, and what it gives is given
 abbrev pub place_plans : ℕ → Tree → Placement → List (Edit × Tree) → Result Placement LimitReached

@@ -7,7 +7,7 @@ use Rattle.adf_model.specs.declared.tree.Edit.{Edit}
 use Rattle.adf_model.specs.Edits.{Work, created_by, file_group}
 use Rattle.adf_model.specs.Placing.{place_group}
 use Rattle.adf_model.specs.Untouched.{group_touched, KeepsRest, KeepsTail}
-use Rattle.tree_laws.specs.Groups.{done_by}
+use Rattle.adf_model.specs.FileGroup.{done_by}
 use Rattle.tree_laws.specs.Spared.{IsEditWhole, KeepsPlaces}
 
 -- some edits of one file are done: the tree and its placement, what the file then holds, and what is left of it

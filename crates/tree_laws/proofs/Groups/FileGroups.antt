@@ -24,7 +24,8 @@ use Rattle.adf_model.proofs.Basics.{not_true, not_false, or_none, equal, not_the
 use Rattle.adf_model.proofs.GroupKeeps.{followed_live, resolve_reaches, reached_in_tree, group_step_keeps, one_step}
 use Rattle.adf_model.proofs.OneFileLaws.{in_its_file}
 use Rattle.adf_model.proofs.LayoutLemmas.{end_of_open}
-use Rattle.tree_laws.specs.Groups.{tree_left, group_need, AreDone, done_by, place_plans}
+use Rattle.adf_model.specs.FileGroup.{done_by}
+use Rattle.tree_laws.specs.Groups.{tree_left, group_need, AreDone, place_plans}
 use Rattle.tree_laws.specs.Needs.{Grows}
 use Rattle.tree_laws.specs.FileGroups.{IsDoneIn, GroupsAreDone, DoneAsMany, RoomIsNeeded, TakesStop, EditByPlan, GroupByPlans}
 use Rattle.tree_laws.proofs.Groups.GroupsGrow.{tree_grows, need_grows, are_done_grow, done_with}

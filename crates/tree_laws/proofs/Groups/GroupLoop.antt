@@ -14,7 +14,8 @@ use Rattle.adf_model.specs.Placing.{placed_as, place_group, chunk_number, group_
 use Rattle.adf_model.specs.Untouched.{touched_extents, group_touched, group_shaped}
 use Rattle.adf_model.proofs.Basics.{not_there, same_Some, same_Ok, not_Err}
 use Rattle.tree_laws.specs.Leaving.{Leaves}
-use Rattle.tree_laws.specs.Groups.{tree_left, placement_left, group_need, AreDone, done_by}
+use Rattle.adf_model.specs.FileGroup.{done_by}
+use Rattle.tree_laws.specs.Groups.{tree_left, placement_left, group_need, AreDone}
 use Rattle.tree_laws.specs.Needs.{Grows}
 use Rattle.tree_laws.specs.GroupLoop.{GroupBegins, GroupGoesOn, GroupPays, GroupStops, GroupIsFull, GroupEnds}
 use Rattle.tree_laws.proofs.Groups.GroupsGrow.{group_grows, group_is_done, done_grow, firsts_grow, placement_grows, placement_is_left, cost_grows}

@@ -23,7 +23,8 @@ use Rattle.adf_format.specs.Tree.{node_at, is_live}
 use Rattle.adf_model.specs.Edits.{named_nodes, followed}
 use Rattle.adf_model.proofs.Basics.{not_false, or_none}
 use Rattle.tree_laws.specs.Plans.{end_of_plan, plan_edit}
-use Rattle.tree_laws.specs.Groups.{tree_left, placement_left, group_need, AreDone, done_then, done_by, place_plans, GroupGrows, GroupIsDone, DoneGrow, FirstsGrow, TreeGrows, PlacementGrows, PlansGrow, PlacementIsLeft, TouchedGrow, ShapedGrow, CostGrows, NeedGrows, AreDoneGrow}
+use Rattle.adf_model.specs.FileGroup.{done_then, done_by}
+use Rattle.tree_laws.specs.Groups.{tree_left, placement_left, group_need, AreDone, place_plans, GroupGrows, GroupIsDone, DoneGrow, FirstsGrow, TreeGrows, PlacementGrows, PlansGrow, PlacementIsLeft, TouchedGrow, ShapedGrow, CostGrows, NeedGrows, AreDoneGrow}
 
 -- ---- an edit of one file that is done is one of nodes that are reached
 

@@ -16,7 +16,8 @@ use Rattle.adf_model.specs.Placing.{place_group}
 use Rattle.adf_model.specs.Untouched.{touched_extents, group_touched, group_shaped, most_in, most_dims, most_children, rank_of, KeepsRest, KeepsTail}
 use Rattle.adf_model.proofs.CreatedNodes.{there_inside}
 use Rattle.adf_model.proofs.Basics.{same_Some}
-use Rattle.tree_laws.specs.Groups.{tree_left, done_by}
+use Rattle.adf_model.specs.FileGroup.{done_by}
+use Rattle.tree_laws.specs.Groups.{tree_left}
 use Rattle.tree_laws.specs.Spared.{KeepsPlaces}
 use Rattle.tree_laws.specs.WholeGroups.{WholeGroupBegins, WholeGroupGoesOn}
 use Rattle.tree_laws.proofs.Groups.GroupsGrow.{placement_is_left, touched_grow, shaped_grow}
