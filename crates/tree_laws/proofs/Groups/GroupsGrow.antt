@@ -15,6 +15,7 @@ use Rattle.adf_model.specs.Edits.{Work, IsReached, apply, at_edit, created_by, f
 use Rattle.adf_model.specs.Need.{need, cost}
 use Rattle.adf_model.specs.Placing.{placed_as, place_group, chunk_number, group_cost}
 use Rattle.adf_model.specs.Untouched.{touched_extents, group_touched}
+use Rattle.adf_model.proofs.StepTests.{step_tests}
 use Rattle.adf_model.proofs.Basics.{not_there, not_Err, same_Ok, same_Some, passed}
 use Rattle.std.proofs.lemmas.List.{append_assoc, append-nil}
 use Rattle.std.specs.List.{list_any}
@@ -47,7 +48,7 @@ followed_live tree (Link at wanted file path) e node f = at_followed tree at nod
 
 pub step_reaches : (writable : Bool) (tree after : Tree) (edit : Edit) → file_step writable tree edit ≡ Ok after → IsReached tree edit × (apply tree edit ≡ Ok after)
 step_reaches writable tree after edit e =
-    let all = passed (reach_tests tree edit ++ (not writable, AdfError.ReadOnly) ∷ []) (apply tree edit) after e in
+    let all = passed (reach_tests tree edit ++ (not writable, AdfError.ReadOnly) ∷ []) (apply tree edit) after (sym (step_tests writable tree edit) ∙ e) in
     (record { live = followed_live tree edit all.0.0; no_link = all.0.1.0 }, all.1)
 
 -- ---- the group
