@@ -41,8 +41,8 @@ asks_none files devices = record {
   files_stay = refl;
   devices_stay = record {
     count = refl;
-    others = λ n apart. record { held = refl; faults = omega arith; lost = refl; writes = refl };
-    counts = λ n. record { faults = omega arith; lost = omega arith; writes = omega arith };
+    others = λ n apart. record { held = refl; faults = omega arith; lost = refl; reads = omega arith; writes = refl };
+    counts = λ n. record { faults = omega arith; lost = omega arith; reads = omega arith; writes = omega arith };
   };
   placed = λ n apart. refl;
 }
@@ -92,6 +92,7 @@ some_fault false file files before now h = (file, h)
 pub query_is_read : (files : Files) (query : Query) (before now : Devices) (result : Result Reply AdfError) → HasQueryCause files query before now result → HasReadCause before now result
 query_is_read files query before now (Ok reply) h = tt
 query_is_read files query before now (Err ReadFault) h = some_fault (goes_through_links query) (asked_node query).file files before now h
+query_is_read files query before now (Err (Layout rule place)) h = h
 query_is_read files query before now (Err error) h = may_is_query query error h
 
 pub query_no_room : (files : Files) (query : Query) (before now : Devices) (asked end : ℕ) → HasQueryCause {A = Reply} files query before now (Err (Full asked end)) → ⊥

@@ -4,7 +4,8 @@ use Rattle.std.specs.Prelude.{Some, None, Result, Ok, Err, is_some}
 use Rattle.adf_model.specs.declared.error.AdfError.{AdfError}
 use Rattle.adf_model.specs.declared.error.AdfError.TheVariants.{ReadFault}
 use Rattle.adf_model.specs.Slots.{Files, Devices, IsTold}
-use Rattle.adf_model.specs.Steps.{Rose, OthersOnlyRead, HasReadCause}
+use Rattle.adf_model.specs.Counts.{Rose}
+use Rattle.adf_model.specs.Steps.{OthersOnlyRead, HasReadCause}
 
 rose_later : (a b c : ℕ) → a ≤ b → Rose b c → Rose a c
 rose_later a b c le h = omega arith
@@ -21,11 +22,13 @@ module _ (a b c : Devices) where
       held = y.held ∙ x.held;
       faults = omega (arith, x.faults, y.faults);
       lost = y.lost ∙ x.lost;
+      reads = omega (arith, x.reads, y.reads);
       writes = y.writes ∙ x.writes;
     };
     counts = λ n. let x = p.counts n in let y = q.counts n in record {
       faults = omega (arith, x.faults, y.faults);
       lost = omega (arith, x.lost, y.lost);
+      reads = omega (arith, x.reads, y.reads);
       writes = omega (arith, x.writes, y.writes);
     };
   }

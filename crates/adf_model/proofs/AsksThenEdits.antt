@@ -12,7 +12,8 @@ use Rattle.adf_model.specs.Slots.{Open, Files, Devices, device_at, open_at, reco
 use Rattle.adf_model.specs.Calls.{Group, edit_group}
 use Rattle.adf_model.specs.Torn.{TornGroup}
 use Rattle.adf_model.specs.Untouched.{KeepsRest, KeepsTail}
-use Rattle.adf_model.specs.Steps.{Rose, OnlyRead, OthersOnlyRead, OthersStayPlaced, WriteFailed, SomeOpenFault, HasGroupCause, HasCauseOf, Refused, WriteStops, IsGroupRefusal, IsEdit, OfGroup, HaveRoom, IsWithinCost, IsPlaced, IsOverLimit, IsPlacedRefusal, IsPlacedGroup, LeavesUntouched, IsUntouchedGroup, Changed}
+use Rattle.adf_model.specs.Steps.{OnlyRead, OthersOnlyRead, OthersStayPlaced, WriteFailed, SomeOpenFault, HasGroupCause, HasCauseOf, Refused, WriteStops, IsGroupRefusal, IsEdit, OfGroup, HaveRoom, IsWithinCost, IsPlaced, IsOverLimit, IsPlacedRefusal, IsPlacedGroup, LeavesUntouched, IsUntouchedGroup, Changed}
+use Rattle.adf_model.specs.Counts.{Rose}
 use Rattle.adf_model.specs.Causes.{OnlyAsks, RefusalLeaves, GroupLeaves, ChangedAnyway}
 use Rattle.adf_model.specs.Runs.{KeepsLayouts, IsToldFor, Makes}
 use Rattle.adf_model.proofs.Asking.{told-stays}
@@ -54,11 +55,13 @@ module _ (files : Files) (a b c : Devices) (asks : OnlyAsks files a b files) whe
       held = y.held ∙ x.held;
       faults = omega (arith, x.faults, y.faults);
       lost = y.lost ∙ x.lost;
+      reads = omega (arith, x.reads, y.reads);
       writes = y.writes ∙ x.writes;
     };
     counts = λ n. let x = asks.devices_stay.counts n in let y = q.counts n in record {
       faults = omega (arith, x.faults, y.faults);
       lost = omega (arith, x.lost, y.lost);
+      reads = omega (arith, x.reads, y.reads);
       writes = omega (arith, x.writes, y.writes);
     };
   }

@@ -9,6 +9,7 @@ use Rattle.adf_model.specs.declared.error.EditError.{EditError}
 use Rattle.adf_model.specs.declared.tree.Edit.{Edit}
 use Rattle.adf_model.specs.declared.tree.NodeId.{NodeId}
 use Rattle.adf_model.specs.Edits.{apply, named_nodes}
+use Rattle.adf_model.specs.Counts.{DeviceState}
 use Rattle.adf_model.specs.Slots.{Open, Files, Devices, open_at, device_at, IsTold}
 use Rattle.adf_model.specs.Calls.{Group, tests_at_entry, resolve, group_of, file_of, file_of_group, group_after, edit_reached, group_step, group_from, edit_group}
 use Rattle.adf_model.specs.Steps.{OthersOnlyRead, Opening, Fresh, Stored, WritesOnce, RefusalWrites, IsOpening, IsEdit, IsGroupRefusal, IsPlacedGroup, IsPlacedRefusal, OfGroup, IsPlaced, IsWithinCost, DropsOne, Call, Opened, Closed, Discarded, Asked, Changed, Skipped, Misread, Step}
@@ -95,7 +96,7 @@ module _ (one : ℕ) (before now : Devices) where
   opening_within files after number opening limit (Err error) h = refusal_cost number opening error h.2
 
   dropped_within : (number : ℕ) (result : Result Unit AdfError) → DropsOne number result before now → Within 0
-  dropped_within number (Ok done) h = elim (eqb_tells one number) [ inl e ↦ subst (λ k. (device_at now k).writes ≤ (device_at before k).writes + 0) (sym e.1) (same h.1.writes) | inr e ↦ other number 0 e.1 h.0 ]
+  dropped_within number (Ok done) h = elim (eqb_tells one number) [ inl e ↦ subst (λ k. (device_at now k).writes ≤ (device_at before k).writes + 0) (sym e.1) (same (ap (λ (s : DeviceState). s.writes) h.1)) | inr e ↦ other number 0 e.1 h.0 ]
     where
       same : (device_at now number).writes ≡ (device_at before number).writes → (device_at now number).writes ≤ (device_at before number).writes + 0
       same e = omega (arith, e)

@@ -10,7 +10,8 @@ use Rattle.adf_model.specs.declared.tree.Query.{Query}
 use Rattle.adf_model.specs.Tests.{Test, first_refusal}
 use Rattle.adf_model.specs.Slots.{Slot, Standing, Files, Devices, slot_at, device_at}
 use Rattle.adf_model.specs.Answers.{asked_node, goes_through_links, may_refuse}
-use Rattle.adf_model.specs.Steps.{Rose, SomeFault, NoCountFell, HasReadFault, HasQueryCause, IsMoved, close_tests, open_tests, DropsOne, Opening, Fresh, Stored, IsFirstOr, IsOpenRefusal, RefusalWrites, IsOpening, IsGroupRefusal, IsEdit, HasCauseOf, HasGroupCause, Call, Opened, Closed, Discarded, Asked, Changed, Skipped, Misread, IsLineError, Step}
+use Rattle.adf_model.specs.Counts.{Rose}
+use Rattle.adf_model.specs.Steps.{SomeFault, NoCountFell, HasReadFault, HasQueryCause, IsMoved, close_tests, open_tests, DropsOne, Opening, Fresh, Stored, IsFirstOr, IsOpenRefusal, RefusalWrites, IsOpening, IsGroupRefusal, IsEdit, HasCauseOf, HasGroupCause, Call, Opened, Closed, Discarded, Asked, Changed, Skipped, Misread, IsLineError, Step}
 use Rattle.adf_model.specs.Causes.{IsOpenCause, HasOpenCause, OpeningWrites, MovesStanding, RefusalLeaves, GroupLeaves, Anyway}
 use Rattle.adf_model.specs.Runs.{Run}
 use Rattle.adf_model.specs.FaultReplies.{fault_of, fault_in, fault_in_group, fault_reply, fault_replies, total_faults}
@@ -176,6 +177,7 @@ module _ (before now : Devices) where
   same_counts e number = record {
     faults = subst (λ (ds : Devices). (device_at before number).faults ≤ (device_at ds number).faults) (sym e) (le_refl _);
     lost = subst (λ (ds : Devices). (device_at before number).lost ≤ (device_at ds number).lost) (sym e) (le_refl _);
+    reads = subst (λ (ds : Devices). (device_at before number).reads ≤ (device_at ds number).reads) (sym e) (le_refl _);
     writes = subst (λ (ds : Devices). (device_at before number).writes ≤ (device_at ds number).writes) (sym e) (le_refl _);
   }
 
@@ -276,7 +278,7 @@ run_counts files after before now [] h = same_counts before now h.0
 run_counts files after before now (call ∷ calls) h = λ number.
     let first = any_counts before h.1 files h.0 call h.2.anyway number in
     let rest = run_counts h.0 after h.1 now calls h.3 number in
-    record { faults = le_trans first.faults rest.faults; lost = le_trans first.lost rest.lost; writes = le_trans first.writes rest.writes }
+    record { faults = le_trans first.faults rest.faults; lost = le_trans first.lost rest.lost; reads = le_trans first.reads rest.reads; writes = le_trans first.writes rest.writes }
 
 pub run_bound : (files after : Files) (before now : Devices) (calls : List Call) → Below now → Run files before calls now after → total_faults before + fault_replies calls ≤ total_faults now
 run_bound files after before now [] below h = stayed before now (same_counts before now h.0)

@@ -17,7 +17,8 @@ use Rattle.adf_model.specs.Edits.{file_tests_at_entry, file_step, named_nodes, n
 use Rattle.adf_model.specs.Placing.{placed_as}
 use Rattle.adf_model.specs.Slots.{Open, Slot, Standing, Files, Device, Devices, device_at, standings, standing_of, slot_at, is_gone, is_open, with_slot, name_there, names_there, number_from, entry_file, entry_files}
 use Rattle.adf_model.specs.Slots.Slot.{Gone, Raw, Saved, Live}
-use Rattle.adf_model.specs.Steps.{Rose, WriteFailed, OthersOnlyRead, OthersStayPlaced, Opening, Fresh, Stored, IsFirstOr, IsOpenRefusal, Opens, IsOpening, IsClose, IsDiscard, DropsOne, closed, open_tests, placed_anew, IsFileRefusal, IsLineError}
+use Rattle.adf_model.specs.Counts.{Rose}
+use Rattle.adf_model.specs.Steps.{WriteFailed, OthersOnlyRead, OthersStayPlaced, Opening, Fresh, Stored, IsFirstOr, IsOpenRefusal, Opens, IsOpening, IsClose, IsDiscard, DropsOne, closed, open_tests, placed_anew, IsFileRefusal, IsLineError}
 use Rattle.adf_model.specs.Causes.{OpensStanding, standing_by, IsOpenCause, HasOpenCause, OpeningWrites, OpenedAnyway, MovesStanding, ClosedAnyway, DiscardedAnyway, RefusalLeaves, GroupLeaves}
 use Rattle.adf_model.proofs.StepTests.{step_tests}
 use Rattle.adf_model.proofs.Basics.{not_true, not_there, same_Some, same_Ok, not_Err}
@@ -119,7 +120,7 @@ open_cause opening slot before now ReadFault h = h
 open_cause (Fresh wide) slot before now NotEmpty h = tt
 open_cause (Fresh wide) slot before now WriteFault h = h.0
 open_cause (Fresh wide) slot before now error h = absurd h
-open_cause (Stored writable) Raw before now (Layout rule place) h = tt
+open_cause (Stored writable) Raw before now (Layout rule place) h = h.0
 open_cause (Stored writable) Raw before now error h = absurd h
 open_cause (Stored writable) Gone before now error h = absurd h
 open_cause (Stored writable) (Saved tree) before now error h = absurd h

@@ -3,7 +3,7 @@ use Rattle.std.proofs.Common.{◌≡◌, ◌≢◌, ℕ, Bool, true, false, not,
 use Rattle.std.specs.Prelude.{Option, Some, None, IsErr, IsTrue, Result, Ok, Err, if◌then◌else◌}
 use Rattle.adf_format.specs.Tree.{Tree, is_live, children_at, IsAmong, IsTree}
 use Rattle.adf_model.specs.declared.error.AdfError.{AdfError}
-use Rattle.adf_model.specs.declared.error.AdfError.TheVariants.{Memory, ReadFault}
+use Rattle.adf_model.specs.declared.error.AdfError.TheVariants.{Memory, ReadFault, Layout}
 use Rattle.adf_model.specs.declared.tree.Query.{Query}
 use Rattle.adf_model.specs.declared.tree.Reply.{Reply}
 use Rattle.adf_model.specs.Tests.{Test, first_refusal, checked}
@@ -69,6 +69,7 @@ file_entry_first broken tree query error result e h =
 
 query_error : (before now : Devices) (error : AdfError) → HasReadCause {A = Reply} before now (Err error) → IsTrue (is_query_error error)
 query_error before now ReadFault h = refl
+query_error before now (Layout rule place) h = refl
 query_error before now error h = h
 
 pub read_errors : (before now : Devices) (error : AdfError) (result : Result Reply AdfError) → result ≡ Err error → HasReadCause before now result → IsTrue (is_query_error error)

@@ -7,12 +7,14 @@ use Rattle.adf_model.specs.declared.tree.Edit.{Edit}
 use Rattle.adf_model.specs.declared.tree.NodeId.{NodeId}
 use Rattle.adf_model.specs.declared.tree.Query.{Query}
 use Rattle.adf_model.specs.declared.tree.Reply.{Reply}
+use Rattle.adf_format.specs.RuleNumbers.{IsRule}
 use Rattle.adf_model.specs.Tests.{Test, first_refusal}
 use Rattle.adf_model.specs.Edits.{named_nodes, followed}
 use Rattle.adf_model.specs.Slots.{Standing, Files, Device, Devices, standings, slot_at, device_at, is_broken, names_there}
 use Rattle.adf_model.specs.Calls.{tests_of_files}
 use Rattle.adf_model.specs.Answers.{asked_node, goes_through_links, IsReplyTo}
-use Rattle.adf_model.specs.Steps.{Rose, WriteFailed, OthersOnlyRead, OthersStayPlaced, IsRefusedBy, HasQueryCause, HasGroupCause, MayEdit, close_tests, open_tests, DropsOne, Opening, Fresh, Stored, IsFirstOr, WritesOnce, RefusalWrites, placed_anew, IsLineError, Call, Opened, Closed, Discarded, Asked, Changed, Skipped, Misread}
+use Rattle.adf_model.specs.Counts.{Rose}
+use Rattle.adf_model.specs.Steps.{WriteFailed, OthersOnlyRead, OthersStayPlaced, IsRefusedBy, HasQueryCause, HasGroupCause, MayEdit, close_tests, open_tests, DropsOne, Opening, Fresh, Stored, IsFirstOr, WritesOnce, RefusalWrites, placed_anew, IsLineError, Call, Opened, Closed, Discarded, Asked, Changed, Skipped, Misread}
 
 -- ---- openings, closings and discardings
 
@@ -32,7 +34,7 @@ IsOpenCause opening before now Memory = Unit {0}
 IsOpenCause opening before now ReadFault = Rose before.faults now.faults
 IsOpenCause (Fresh wide) before now WriteFault = WriteFailed before now
 IsOpenCause (Fresh wide) before now NotEmpty = Unit {0}
-IsOpenCause (Stored writable) before now (Layout rule place) = Unit {0}
+IsOpenCause (Stored writable) before now (Layout rule place) = IsRule rule
 IsOpenCause opening before now error = ⊥
 
 -- the files alone refuse an opening first; a done one they do not refuse

@@ -7,12 +7,14 @@ pub mod Need
 pub mod Placing
 pub mod Untouched
 pub mod NodeData
+pub mod Counts
 pub mod Slots
 pub mod Follow
 pub mod Calls
 pub mod Answers
 pub mod Torn
 pub mod Steps
+pub mod Modes
 pub mod Causes
 pub mod OneFile
 pub mod FileGroup

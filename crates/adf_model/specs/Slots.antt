@@ -1,6 +1,7 @@
 -- The files of a shelf: what is known of each, and of its device.
 use Rattle.std.specs.Prelude.{slice_index_or, ◌≡◌, ℕ, zero, suc, Bool, true, false, List, [], ◌∷◌, Option, Some, None, IsSome, map, slice_get, if◌then◌else◌, bytes_eq}
 use Rattle.adf_format.specs.Placement.{Placement}
+use Rattle.adf_model.specs.Counts.{DeviceState}
 use Rattle.adf_format.specs.FirstFault.{end_in}
 use Rattle.adf_format.specs.Tree.{Tree, IsTree, IsNumbered}
 
@@ -132,20 +133,25 @@ with_slot [] number slot = []
 with_slot (file ∷ files) zero slot = with_slot_of file slot ∷ files
 with_slot (file ∷ files) (suc number) slot = file ∷ with_slot files number slot
 
--- what a device holds, where it tells; the placement by which it holds the open tree, which is meant where it tells; and its counts of faults, of lost writes and of writes
+-- what a device holds, where it tells; the placement by which it holds the open tree, which is meant where it tells; and its counts of faults, of lost writes, of reads and of writes
 pub record Device : Type 0 where
   pub held : Option (List ℕ)
   pub placement : Placement
   pub faults : ℕ
   pub lost : ℕ
+  pub reads : ℕ
   pub writes : ℕ
+
+-- the device without its placement
+abbrev pub state_of : Device → DeviceState
+state_of device = record { held = device.held; faults = device.faults; lost = device.lost; reads = device.reads; writes = device.writes }
 
 -- the devices by the numbers of their files
 abbrev pub Devices : Type 0
 Devices = List Device
 
 abbrev pub no_device : Device
-no_device = record { held = None; placement = record { parts = []; heap = record { gaps = []; end = 0 } }; faults = 0; lost = 0; writes = 0 }
+no_device = record { held = None; placement = record { parts = []; heap = record { gaps = []; end = 0 } }; faults = 0; lost = 0; reads = 0; writes = 0 }
 
 abbrev pub device_at : Devices → ℕ → Device
 device_at devices number = slice_index_or devices number no_device

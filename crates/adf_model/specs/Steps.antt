@@ -14,19 +14,18 @@ use Rattle.adf_model.specs.Edits.{named_nodes, file_tests_at_entry, file_step}
 use Rattle.adf_format.specs.Placement.{Placement}
 use Rattle.adf_format.specs.LaysOut.{LaysOut}
 use Rattle.adf_format.specs.FirstFault.{FirstFault}
+use Rattle.adf_format.specs.RuleNumbers.{IsRule}
 use Rattle.adf_format.specs.Fresh.{fresh_block, fresh_placement}
 use Rattle.adf_format.specs.HeapRule.{LimitReached, place_edit}
 use Rattle.adf_model.specs.Placing.{placed_as, place_group, group_cost}
 use Rattle.adf_model.specs.Untouched.{StaysBeside, KeepsRest, KeepsTail, group_touched}
 use Rattle.adf_model.specs.Torn.{TornAt, TornGroup}
-use Rattle.adf_model.specs.Slots.{Open, Slot, Standing, standing_of, Files, slot_at, is_gone, is_open, open_at, with_slot, Device, Devices, device_at, recorded_end}
+use Rattle.adf_model.specs.Counts as counts
+use Rattle.adf_model.specs.Counts.{Rose, OnlyReads, WriteFails, dropped}
+use Rattle.adf_model.specs.Slots.{Open, Slot, Standing, standing_of, Files, slot_at, is_gone, is_open, open_at, with_slot, Device, Devices, device_at, state_of, recorded_end}
 use Rattle.adf_model.specs.Slots.Slot.{Gone, Raw, Saved, Live}
 use Rattle.adf_model.specs.Calls.{Group, tests_at_entry, edit_group}
 use Rattle.adf_model.specs.Answers.{answer, refusal_at_entry, file_answer, asked_node, goes_through_links, may_refuse}
-
--- a count rose: it is higher, or stands at the end of its type
-abbrev pub Rose : ℕ → ℕ → Type 0
-Rose before now = min (before + 1) (2 ^ 64 - 1) ≤ now
 
 -- the call failed to read from some device
 abbrev pub SomeFault : Devices → Devices → Type 0
@@ -36,18 +35,13 @@ SomeFault before now = (number : ℕ) × Rose (device_at before number).faults (
 abbrev pub SomeOpenFault : Files → Devices → Devices → Type 0
 SomeOpenFault files before now = (number : ℕ) × (is_open (slot_at files number) ≡ true) × Rose (device_at before number).faults (device_at now number).faults
 
--- a device that was not written: only its count of faults may be higher
-pub record OnlyRead (before now : Device) : Type 0 where
-  pub held : now.held ≡ before.held
-  pub faults : before.faults ≤ now.faults
-  pub lost : now.lost ≡ before.lost
-  pub writes : now.writes ≡ before.writes
+-- a device that was not written, and of which no count fell
+abbrev pub OnlyRead : Device → Device → Type 0
+OnlyRead before now = OnlyReads (state_of before) (state_of now)
 
 -- no count of the device is lower
-pub record NoneFell (before now : Device) : Type 0 where
-  pub faults : before.faults ≤ now.faults
-  pub lost : before.lost ≤ now.lost
-  pub writes : before.writes ≤ now.writes
+abbrev pub NoneFell : Device → Device → Type 0
+NoneFell before now = counts.NoCountFell (state_of before) (state_of now)
 
 -- no count of any device is lower
 abbrev pub NoCountFell : Devices → Devices → Type 0
@@ -64,10 +58,8 @@ abbrev pub OthersStayPlaced : Option ℕ → Devices → Devices → Type 0
 OthersStayPlaced one before now = (number : ℕ) → Some number ≢ one → (device_at now number).placement ≡ (device_at before number).placement
 
 -- a write of this device failed
-pub record WriteFailed (before now : Device) : Type 0 where
-  pub faults : Rose before.faults now.faults
-  pub lost : Rose before.lost now.lost
-  pub writes : Rose before.writes now.writes
+abbrev pub WriteFailed : Device → Device → Type 0
+WriteFailed before now = WriteFails (state_of before) (state_of now)
 
 -- the one error wanted, or want of memory
 abbrev pub IsMemoryOr : AdfError → AdfError → Type 0
@@ -113,6 +105,7 @@ is_query_error error = false
 abbrev pub HasReadCause : {A : Type 0} → Devices → Devices → Result A AdfError → Type 0
 HasReadCause before now (Ok value) = Unit {0}
 HasReadCause before now (Err ReadFault) = SomeFault before now
+HasReadCause before now (Err (Layout rule place)) = IsRule rule
 HasReadCause before now (Err error) = IsTrue (is_query_error error)
 
 -- a failed read is one of the node's own file, or, where links may be followed, of some open file
@@ -124,6 +117,7 @@ HasReadFault false file files before now = Rose (device_at before file).faults (
 abbrev pub HasQueryCause : {A : Type 0} → Files → Query → Devices → Devices → Result A AdfError → Type 0
 HasQueryCause files query before now (Ok value) = Unit {0}
 HasQueryCause files query before now (Err ReadFault) = HasReadFault (goes_through_links query) (asked_node query).file files before now
+HasQueryCause files query before now (Err (Layout rule place)) = IsRule rule
 HasQueryCause files query before now (Err error) = IsTrue (may_refuse query error)
 
 -- the errors of other calls than a group of edits
@@ -139,6 +133,7 @@ is_foreign_to_edits error = false
 -- a failed read in a group is one of an open file
 abbrev pub HasCauseOf : Files → Devices → Devices → AdfError → Type 0
 HasCauseOf files before now ReadFault = SomeOpenFault files before now
+HasCauseOf files before now (Layout rule place) = IsRule rule
 HasCauseOf files before now error = is_foreign_to_edits error ≡ false
 
 -- a group is refused under its cause, and with no error of another call
@@ -355,11 +350,8 @@ abbrev pub IsDiscard : Files → ℕ → Result Unit AdfError → Files → Type
 IsDiscard files number result after = IsMoved (open_tests files number) files Gone number result after
 
 -- a device that is gone tells nothing any more, and its counts stay
-pub record Dropped (before now : Device) : Type 0 where
-  pub held : now.held ≡ None
-  pub faults : now.faults ≡ before.faults
-  pub lost : now.lost ≡ before.lost
-  pub writes : now.writes ≡ before.writes
+abbrev pub Dropped : Device → Device → Type 0
+Dropped before now = state_of now ≡ dropped (state_of before)
 
 -- a discarding drops one device, and leaves all where it is refused
 abbrev pub DropsOne : ℕ → Result Unit AdfError → Devices → Devices → Type 0
@@ -439,7 +431,7 @@ IsOpenRefusal (Fresh wide) slot before now NotEmpty = (image : List ℕ) → bef
 IsOpenRefusal (Fresh wide) slot before now WriteFault =
     WriteFailed before now × ((image : List ℕ) → before.held ≡ Some image → image ≡ [])
     × ((old new : List ℕ) → before.held ≡ Some old → now.held ≡ Some new → TornAt 0 old old new)
-IsOpenRefusal (Stored writable) Raw before now (Layout rule place) = (image : List ℕ) → before.held ≡ Some image → FirstFault image (record { rule = rule; place = place })
+IsOpenRefusal (Stored writable) Raw before now (Layout rule place) = IsRule rule × ((image : List ℕ) → before.held ≡ Some image → FirstFault image (record { rule = rule; place = place }))
 IsOpenRefusal opening slot before now error = ⊥
 
 -- what may be answered to an opening, and what it leaves

@@ -13,7 +13,8 @@ ghost use Rattle.adf_model.specs.Tests.{first_refusal};
 ghost use Rattle.adf_model.specs.Edits.{file_tests_at_entry, file_step, named_nodes};
 ghost use Rattle.adf_model.specs.Placing.{placed_as};
 ghost use Rattle.adf_model.specs.Slots.{Standing, Files, Devices, device_at, standings, slot_at, is_gone, names_there, number_of, entry_files};
-ghost use Rattle.adf_model.specs.Steps.{Rose, WriteFailed, Opening, close_tests, open_tests, IsEdit, IsFileRefusal, IsLineError, Opened, Closed, Discarded, Step, Misread};
+ghost use Rattle.adf_model.specs.Counts.{Rose};
+ghost use Rattle.adf_model.specs.Steps.{WriteFailed, Opening, close_tests, open_tests, IsEdit, IsFileRefusal, IsLineError, Opened, Closed, Discarded, Step, Misread};
 ghost use Rattle.adf_model.specs.Causes.{OpensStanding, HasOpenCause, standing_by, OpenedAnyway, MovesStanding, ClosedAnyway, DiscardedAnyway, GroupLeaves};
 
 /// A done opening changes how its own file stands alone, a refused one changes none; and what may be

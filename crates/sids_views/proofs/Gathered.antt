@@ -8,7 +8,8 @@ use Rattle.std.proofs.lemmas.List.Elements.{filter_map-append}
 use Rattle.adf_model.specs.declared.error.AdfError.{AdfError}
 use Rattle.adf_model.specs.declared.error.AdfError.TheVariants.{ReadFault}
 use Rattle.adf_model.specs.Slots.{Files, Devices, IsTold, slot_at, is_gone, is_open}
-use Rattle.adf_model.specs.Steps.{Rose, SomeOpenFault}
+use Rattle.adf_model.specs.Counts.{Rose}
+use Rattle.adf_model.specs.Steps.{SomeOpenFault}
 use Rattle.adf_model.proofs.Asking.{stays-trans}
 use Rattle.sids_views.specs.Asks.{HasAskCause}
 use Rattle.adf_model.specs.Causes.{OnlyAsks}
