@@ -55,7 +55,7 @@ rose_later a b c le rose = omega arith
 pub refused_for : (P Q : Type 0) (a b : ℕ) (e : AdfError) → (P → Q) → IsRefusal P a b e → IsRefusal Q a b e
 refused_for P Q a b error.Memory f h = h
 refused_for P Q a b error.ReadFault f h = h
-refused_for P Q a b (error.Layout rule place) f h = f h
+refused_for P Q a b (error.Layout rule place) f h = (h.0, f h.1)
 refused_for P Q a b other f h = h
 
 pub all_refused_for : {T : Type 0} (P Q : Type 0) (a b : ℕ) (r : Result T AdfError) → (P → Q) → IfErr r (IsRefusal P a b) → IfErr r (IsRefusal Q a b)
@@ -66,7 +66,7 @@ all_refused_for P Q a b (Err e) f h = refused_for P Q a b e f h
 pub refused_later : (P Q : Type 0) (a b c : ℕ) (e : AdfError) → a ≤ b → (P → Q) → IsRefusal P b c e → IsRefusal Q a c e
 refused_later P Q a b c error.Memory le f h = h
 refused_later P Q a b c error.ReadFault le f h = rose_later a b c le h
-refused_later P Q a b c (error.Layout rule place) le f h = f h
+refused_later P Q a b c (error.Layout rule place) le f h = (h.0, f h.1)
 refused_later P Q a b c other le f h = h
 
 pub all_refused_later : {T : Type 0} (P Q : Type 0) (a b c : ℕ) (r : Result T AdfError) → a ≤ b → (P → Q) → IfErr r (IsRefusal P b c) → IfErr r (IsRefusal Q a c)

@@ -3,6 +3,8 @@ use Rattle.std.specs.Prelude.{◌≡◌, ℕ, ◌+◌, ◌≤◌, List, None, So
 use Rattle.std.specs.declared.option.Option.{Option}
 use Rattle.adf_model.specs.declared.error.AdfError.{AdfError}
 use Rattle.adf_model.specs.declared.error.AdfError.TheVariants as error
+use Rattle.adf_format.specs.RuleNumbers.{IsRule}
+pub use Rattle.adf_model.specs.Counts.{OnlyReads}
 use Rattle.cg_io.specs.Cause.{Rose}
 use Rattle.cg_io.specs.Device.{DeviceState}
 
@@ -12,22 +14,14 @@ use Rattle.cg_io.specs.Device.{DeviceState}
 abbrev pub HasRisen : {E : Type 0} → ℕ → ℕ → E → Type 0
 HasRisen before now refusal = Rose before now
 
--- want of memory, a failed read where the count of faults rose, or, under a condition, the layout of the bytes
+-- want of memory, a failed read where the count of faults rose, or, under a condition, a rule of a layout that the bytes break
 abbrev pub IsRefusal : Type 0 → ℕ → ℕ → AdfError → Type 0
 IsRefusal unread before now error.Memory = ⊤
 IsRefusal unread before now error.ReadFault = Rose before now
-IsRefusal unread before now (error.Layout rule place) = unread
+IsRefusal unread before now (error.Layout rule place) = IsRule rule × unread
 IsRefusal unread before now other = ⊥
 
 -- ---- what is left
-
--- nothing is written, and no count falls
-pub record OnlyReads (old new : DeviceState) : Type 0 where
-  pub held : new.held ≡ old.held
-  pub lost : new.lost ≡ old.lost
-  pub writes : new.writes ≡ old.writes
-  pub reads : old.reads ≤ new.reads
-  pub faults : old.faults ≤ new.faults
 
 -- A call that reads: what is kept is sound, the bytes and the blocks that wait stay, the device is left by Effect (as ReadsFew n
 -- or OnlyReads), and a refusal has its cause.

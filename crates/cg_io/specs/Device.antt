@@ -2,15 +2,8 @@
 use Rattle.std.specs.Prelude.{◌≡◌, ◌⊎◌, ℕ, ◌+◌, ◌-◌, ◌*◌, List, ◌++◌, length, take, drop, replicate, None, Some, ⊤}
 use Rattle.std.specs.Option.{option_map}
 use Rattle.std.specs.declared.option.Option.{Option}
-use Rattle.cg_io.specs.Cause.{raised}
-
--- The bytes, where they are told, and how often the device failed, lost a write, was read and was written.
-pub record DeviceState : Type 0 where
-  pub held : Option (List ℕ)
-  pub faults : ℕ
-  pub lost : ℕ
-  pub reads : ℕ
-  pub writes : ℕ
+pub use Rattle.adf_model.specs.Counts.{DeviceState}
+use Rattle.adf_model.specs.Counts.{raised}
 
 -- n of the bytes from a place on, with zeros past the end
 unfoldable pub bytes_at : List ℕ → ℕ → ℕ → List ℕ
