@@ -36,3 +36,4 @@ pub mod PointerLaws
 pub mod NumberLaws
 pub mod BehindEnd
 pub mod CaseLaws
+pub mod TextLaws

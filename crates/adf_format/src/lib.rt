@@ -4,7 +4,9 @@
 
 pub mod fields;
 pub mod laws;
+pub mod limits;
 mod lists;
+pub mod texts;
 mod types;
 pub mod writes;
 

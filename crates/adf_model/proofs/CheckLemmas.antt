@@ -1,29 +1,9 @@
--- What the checks of texts and shapes stand on.
+-- What the sizes of shapes stand on.
 use Rattle.std.proofs.Common.{◌≡◌, ℕ, zero, suc, ◌+◌, ◌-◌, ◌*◌, ◌<◌, ◌≤◌, min, false, ◌==◌, List, [], ◌∷◌, ◌++◌, length, get_or, take, refl, sym, ◌∙◌, ap, arith, sub-one}
 use Rattle.std.proofs.Math.Nat.{mul-suc, mul-zero, mul_assoc, min-eq_left}
 use Rattle.std.proofs.lemmas.List.{take_more}
 use Rattle.std.specs.Prelude.{Some, None, slice_get}
 use Rattle.adf_format.specs.Names.{ends_with_space, product}
-
--- the last byte decides whether a text ends with a space
-last_at : (c b : ℕ) (text : List ℕ) → slice_get (c ∷ text) (length text) ≡ Some b → ends_with_space (c ∷ text) ≡ (b == 32)
-last_at c b [] e = ap (λ x. x == 32) (same e)
-  where
-    same : Some c ≡ Some b → c ≡ b
-    same e = cc
-last_at c b (d ∷ text) e = last_at d b text e
-
-none_at : (c : ℕ) (text : List ℕ) → slice_get (c ∷ text) (length text) ≡ None → ⊥
-none_at c [] e = cc
-none_at c (d ∷ text) e = none_at d text e
-
-pub last_space : (text : List ℕ) (b : ℕ) → slice_get text (length text - 1) ≡ Some b → ends_with_space text ≡ (b == 32)
-last_space [] b e = cc
-last_space (c ∷ text) b e = last_at c b text (rw sub-one at e)
-
-pub no_last : (text : List ℕ) → slice_get text (length text - 1) ≡ None → ends_with_space text ≡ false
-no_last [] e = refl
-no_last (c ∷ text) e = absurd (none_at c text (rw sub-one at e))
 
 one_more : (m x y a bound : ℕ) → m ≡ min a bound → (a ≤ bound → x ≡ y) → min (x + m) bound ≡ min (y + a) bound
 one_more m x y a bound e same = grind (arith, same)

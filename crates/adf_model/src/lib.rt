@@ -25,9 +25,10 @@ pub mod untouched_laws;
 pub mod walk_laws;
 pub mod write_laws;
 
+pub use adf_format::texts::{is_label, is_name};
 pub use adf_format::{DataType, Format, Listing};
 pub use calls::TreeCalls;
-pub use checks::{element_size, is_label, is_name, is_shape, is_wide_shape, size};
+pub use checks::{element_size, is_shape, is_wide_shape, size};
 pub use error::{AdfError, EditError};
 pub use lists::{Children, Edits, Numbers, PathRange, Ranges, Rules, Run, Runs, Serials, Text};
 pub use mode::Mode;

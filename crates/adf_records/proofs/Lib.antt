@@ -1,4 +1,3 @@
-pub mod TextLaws
 pub mod RowGroups
 pub mod Pieces
 pub mod Respelling

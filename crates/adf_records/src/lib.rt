@@ -17,6 +17,7 @@ ghost use Rattle.adf_format.specs.Records.{header_record, header_text, free_tabl
 ghost use Rattle.adf_records.specs.View.{fault, header_of, HasHeaderOffsets, pointers_of, HasFreeOffsets, record_of, HasOffsets, IsNarrow};
 ghost use Rattle.adf_records.specs.Laws.{HeaderIsReadAgain, FreeIsReadAgain, NodeIsReadAgain, HeaderIsWrittenAgain, FreeIsWrittenAgain, NodeIsWrittenAgain, FreeFaultIsPlaced, NodeFaultIsPlaced};
 
+use adf_format::texts::{is_name, trimmed};
 use adf_format::{DataType, Format};
 use disk_ptr::DiskPtr;
 
@@ -206,7 +207,7 @@ pub fn encode_wide(header: &NodeHeader) -> [u8; 342]
 pub fn is_name_field(field: &[u8; 32]) -> bool
     ensures { result ≡ is_name_field field.now }
 {
-    texts::is_name(texts::trimmed(field))
+    is_name(trimmed(field))
 }
 
 /// The dimensions of a node as numbers: 0 where a dimension is not hexadecimal.

@@ -11,13 +11,14 @@ ghost use Rattle.adf_format.specs.Records.{node_record, node_text};
 ghost use Rattle.adf_records.specs.View.{fault, record_of, HasOffsets, IsNarrow, zeros_behind};
 
 use crate::faults::bad;
-use crate::texts::{is_label, is_mt, is_name, padded, trimmed, type_of, type_or_mt, word_of};
+use crate::texts::{is_mt, type_of, type_or_mt, word_of};
 use crate::{BadField, NodeHeader};
 use adf_format::fields::{
     Field, NODE_CHILDREN, NODE_CHUNKS, NODE_END_TAG, NODE_ENTRIES, NODE_LABEL, NODE_NAME,
     NODE_RANK, NODE_TABLE, NODE_TAG, NODE_TYPE, dimension_digits, node_chunk, node_chunks,
     node_dimension, node_end_tag,
 };
+use adf_format::texts::{is_label, is_name, padded, trimmed};
 use disk_ptr::fields::{
     bytes_of, copied, holds_tag, is_number, number, pointer_at, pointer_or_blank, put, put_number,
     put_pointer, put_tag,

@@ -22,6 +22,7 @@ use crate::head::place_of;
 use crate::node::{Met, look_at_header};
 use crate::pages::Page;
 use crate::verdict::{Halt, Span, halt_at};
+use adf_format::limits::{DEEPEST, MOST_CHILDREN};
 use adf_format::{DataType, Extent, ExtentKind};
 use adf_records::NodeHeader;
 use cg_io::Blocks;
@@ -37,10 +38,6 @@ pub struct Next {
     /// The name field of the node.
     pub name: [u8; 32],
 }
-
-const MOST_CHILDREN: u32 = 1 << 20;
-
-const DEEPEST: u8 = 255;
 
 // Whether a node may have so many children: rule 22.
 fn has_few_children(header: &NodeHeader, depth: u8) -> bool

@@ -13,30 +13,9 @@ ghost use Rattle.layout_lint.specs.Paths.{AreNames, IsPath, IsWay, IsWayUp, prin
 
 use crate::owners::NodeNames;
 use crate::verdict::{NodePlace, NodePlaces};
+use adf_format::texts::trimmed;
 use adf_model::{AdfError, Text, spell};
 use std::alloc::Global;
-
-// How long a text is without the blanks at its end.
-fn text_length(bytes: &[u8]) -> usize
-    ensures within { result ≤ length bytes.now }
-    ensures text { take result bytes.now ≡ trimmed bytes.now }
-{
-    let mut n = bytes.len();
-    while n > 0 {
-        if bytes[n - 1] != b' ' {
-            return n;
-        }
-        n -= 1;
-    }
-    0
-}
-
-// A field without the blanks behind its text.
-fn trimmed(bytes: &[u8]) -> &[u8]
-    ensures { result.now ≡ trimmed bytes.now }
-{
-    &bytes[..text_length(bytes)]
-}
 
 // The numbers of a node and of those above it, up to the one below the root.
 fn numbers_up(alloc: Global, nodes: &[NodePlace], number: u64) -> Result<Vec<u64>, AdfError>

@@ -6,7 +6,3 @@ use Rattle.adf_format.specs.Fields.{text_field}
 -- a place is that of its block and its offset
 pub place_again : (place : ℕ) → place / 4096 * 4096 + place % 4096 ≡ place
 place_again place = omega arith
-
--- a text in front of a field of spaces
-pub spaces_behind : (text : List ℕ) → text ++ drop (length text) (replicate 32 32) ≡ text_field 32 text
-spaces_behind text = ap (λ (rest : List ℕ). text ++ rest) (drop-replicate (length text) 32 32)

@@ -8,13 +8,8 @@ ghost use Rattle.plain_library.specs.Core.{tree_of, HasDepths};
 ghost use Rattle.plain_library.specs.Creating.{HasChildren};
 
 use crate::open_file::Row;
+use adf_format::limits::{DEEPEST, MOST_CHILDREN};
 use adf_model::{AdfError, is_label, is_name};
-
-// The children that a node may have.
-const MOST_CHILDREN: usize = 1 << 20;
-
-// The depth of a node that may have no child.
-const DEEPEST: u64 = 255;
 
 // The serials that may be drawn.
 const MOST_SERIALS: usize = 1 << 48;
@@ -48,7 +43,7 @@ fn is_deepest(rows: &[Row], parent: usize) -> bool
     requires depths { HasDepths rows.now }
     ensures { result ≡ nat_le 255 (depth_of (tree_of rows.now) parent) }
 {
-    rows[parent].depth >= DEEPEST
+    rows[parent].depth >= u64::from(DEEPEST)
 }
 
 // Whether each serial is drawn.
@@ -76,7 +71,7 @@ pub fn refusal(rows: &[Row], parent: usize, name: &[u8], label: &[u8]) -> Option
     if has_named(rows, children, name) {
         return Some(AdfError::Duplicate);
     }
-    if children.len() >= MOST_CHILDREN {
+    if children.len() >= MOST_CHILDREN as usize {
         return Some(AdfError::TooManyChildren);
     }
     if is_deepest(rows, parent) {

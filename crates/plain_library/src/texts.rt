@@ -9,6 +9,7 @@ ghost use Rattle.adf_model.specs.Creation.{empty_node};
 ghost use Rattle.disk_ptr.specs.View.{view, HasOffset};
 
 use adf_chunks::{NodeEntry, Part, encode_entry, encode_head};
+use adf_format::texts::padded;
 use adf_model::DataType;
 use adf_records::{NodeHeader, encode_node};
 use disk_ptr::{DiskPtr, encode, from_place, write_hex};
@@ -24,17 +25,6 @@ fn pointer_of(place: u64) -> DiskPtr
     ensures offset { HasOffset result }
 {
     from_place(place)
-}
-
-/// A name or a label, with spaces behind it.
-#[tactic(auto, using(crate::proofs::TextLaws::spaces_behind))]
-pub fn padded(text: &[u8]) -> [u8; 32]
-    requires { length text.now ≤ 32 }
-    ensures { result ≡ text_field 32 text.now }
-{
-    let mut field = [b' '; 32];
-    field[..text.len()].copy_from_slice(text);
-    field
 }
 
 /// The header of a node without shape, data and children.

@@ -1,6 +1,6 @@
 use Rattle.std.proofs.Common.{ℕ, length, ap, ◌∙◌, ◌++◌, drop, replicate}
 use Rattle.std.proofs.lemmas.List.{drop-replicate}
-use Rattle.adf_records.proofs.texts.padded.Goals as goal
+use Rattle.adf_format.proofs.texts.padded.Goals as goal
 
 pub returns : goal.returns
 returns c = ap (λ t. t ++ drop (length c.args.text.now) (replicate {A = ℕ} 32 32)) c.copy_from_slice.ensures.after ∙ ap (λ t. c.args.text.now ++ t) (drop-replicate {X = ℕ} (length c.args.text.now) 32 32)

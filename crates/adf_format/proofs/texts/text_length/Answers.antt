@@ -1,6 +1,6 @@
 use Rattle.std.proofs.Common.{sym, ◌∙◌, ◌-◌, arith}
-use Rattle.adf_records.proofs.TextLaws.{cut_space, kept_end}
-use Rattle.layout_lint.proofs.paths.text_length.Goals as goal
+use Rattle.adf_format.proofs.TextLaws.{cut_space, kept_end}
+use Rattle.adf_format.proofs.texts.text_length.Goals as goal
 
 pub returns-then-bytes-n-ne32-clause-text : goal.returns-then-bytes-n-ne32-clause-text
 returns-then-bytes-n-ne32-clause-text c =

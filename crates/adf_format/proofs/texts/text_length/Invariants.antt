@@ -1,6 +1,6 @@
 use Rattle.std.proofs.Common.{◌≡◌, ◌≤◌, length, take}
 use Rattle.adf_format.specs.Fields.{trimmed}
-use Rattle.adf_records.proofs.texts.text_length.Given as goal
+use Rattle.adf_format.proofs.texts.text_length.Given as goal
 
 -- what is cut so far are spaces
 abbrev pub invariant-loop-n : goal.invariant-loop-n
