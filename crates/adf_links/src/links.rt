@@ -39,9 +39,11 @@ fn mark_in(text: &[u8]) -> Option<usize>
 /// BadLink exactly where the file or the path is not in the grammar, and then with TooLarge exactly
 /// where the text has more than 4,096 bytes; else with Memory alone.
 pub fn join_link(alloc: Global, file: &[u8], path: &[u8]) -> Result<Text, AdfError>
-    ensures grammar { (result ≡ Err AdfError.BadLink) ↔ IsFalse (is_link_file file.now && is_link_path path.now) }
+    ensures grammar { (result ≡ Err AdfError.BadLink)
+        ↔ IsFalse (is_link_file file.now && is_link_path path.now) }
     ensures limit { (result ≡ Err AdfError.TooLarge)
-        ↔ (IsTrue (is_link_file file.now && is_link_path path.now) × (4096 < length (link_text file.now path.now))) }
+        ↔ (IsTrue (is_link_file file.now && is_link_path path.now)
+        × (4096 < length (link_text file.now path.now))) }
     ensures text { IfOk result (λ text. text ≡ link_text file.now path.now) }
     ensures refused { IfErr result IsJoinRefusal }
 {
@@ -75,9 +77,14 @@ fn is_link_file(file: &[u8]) -> bool
 /// A file and a path in the grammar, joined, are a link's text, and are its parts; and the parts of
 /// a link's text, joined, are that text.
 pub fn parts_of_joined()
-    ensures linked { (file path : List ℕ) → IsTrue (is_link_file file && is_link_path path) → IsTrue (is_link_text (link_text file path)) }
-    ensures file { (file path : List ℕ) → IsTrue (is_link_file file) → file_part (link_text file path) ≡ file }
-    ensures path { (file path : List ℕ) → IsTrue (is_link_file file) → path_part (link_text file path) ≡ path }
-    ensures again { (text : List ℕ) → IsTrue (is_link_text text) → link_text (file_part text) (path_part text) ≡ text }
-    ensures grammar { (text : List ℕ) → IsTrue (is_link_text text) → IsTrue (is_link_file (file_part text) && is_link_path (path_part text)) }
+    ensures linked { (file path : List ℕ) → IsTrue (is_link_file file && is_link_path path)
+        → IsTrue (is_link_text (link_text file path)) }
+    ensures file { (file path : List ℕ) → IsTrue (is_link_file file)
+        → file_part (link_text file path) ≡ file }
+    ensures path { (file path : List ℕ) → IsTrue (is_link_file file)
+        → path_part (link_text file path) ≡ path }
+    ensures again { (text : List ℕ) → IsTrue (is_link_text text)
+        → link_text (file_part text) (path_part text) ≡ text }
+    ensures grammar { (text : List ℕ) → IsTrue (is_link_text text)
+        → IsTrue (is_link_file (file_part text) && is_link_path (path_part text)) }
 {}

@@ -28,7 +28,8 @@ use disk_ptr::fields::{
 fn is_what(bytes: &[u8]) -> bool
     requires { length bytes.now ≡ 186 }
     ensures { result ≡ (holds bytes.now WHAT_PRODUCT.offset PRODUCT
-        && (holds bytes.now WHAT_VERSION.offset (version_letter false) || holds bytes.now WHAT_VERSION.offset (version_letter true))
+        && (holds bytes.now WHAT_VERSION.offset (version_letter false)
+        || holds bytes.now WHAT_VERSION.offset (version_letter true))
         && holds bytes.now WHAT_CLOSING.offset CLOSING) }
 {
     if !holds(bytes, WHAT_PRODUCT.offset, &PRODUCT) {
@@ -45,7 +46,8 @@ fn is_what(bytes: &[u8]) -> bool
 
 fn is_format(bytes: &[u8]) -> bool
     requires { length bytes.now ≡ 186 }
-    ensures { result ≡ (holds bytes.now HEADER_FORMAT.offset (format_letter Format.Little) || holds bytes.now HEADER_FORMAT.offset (format_letter Format.Big)) }
+    ensures { result ≡ (holds bytes.now HEADER_FORMAT.offset (format_letter Format.Little)
+        || holds bytes.now HEADER_FORMAT.offset (format_letter Format.Big)) }
 {
     if holds(bytes, HEADER_FORMAT.offset, &format_letter(Format::Little)) {
         return true;

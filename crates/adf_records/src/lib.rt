@@ -148,7 +148,8 @@ pub fn decode_named(bytes: &[u8], wide: bool, named: bool) -> Result<NodeHeader,
     ensures offsets { IfOk result HasOffsets }
     ensures narrow { IfOk result IsNarrow }
     ensures wide { IfOk result (λ n. n.wide ≡ wide) }
-    ensures bad { IfErr result (λ b. first_broken (node_rows wide 0 named bytes.now) ≡ Some (fault b)) }
+    ensures bad { IfErr result (λ b. first_broken (node_rows wide 0 named bytes.now)
+        ≡ Some (fault b)) }
 {
     match node::first_fault(bytes, wide, named) {
         Some(bad) => Err(bad),
@@ -163,7 +164,8 @@ pub fn decode_node(bytes: &[u8; 246]) -> Result<NodeHeader, BadField>
     ensures offsets { IfOk result HasOffsets }
     ensures narrow { IfOk result IsNarrow }
     ensures wide { IfOk result (λ n. n.wide ≡ false) }
-    ensures bad { IfErr result (λ b. first_broken (node_rows false 0 true bytes.now) ≡ Some (fault b)) }
+    ensures bad { IfErr result (λ b. first_broken (node_rows false 0 true bytes.now)
+        ≡ Some (fault b)) }
 {
     decode_named(bytes, false, true)
 }
@@ -174,7 +176,8 @@ pub fn decode_wide(bytes: &[u8; 342]) -> Result<NodeHeader, BadField>
     ensures says { IfOk result (λ n. record_of n ≡ node_record true bytes.now) }
     ensures offsets { IfOk result HasOffsets }
     ensures wide { IfOk result (λ n. n.wide ≡ true) }
-    ensures bad { IfErr result (λ b. first_broken (node_rows true 0 true bytes.now) ≡ Some (fault b)) }
+    ensures bad { IfErr result (λ b. first_broken (node_rows true 0 true bytes.now)
+        ≡ Some (fault b)) }
 {
     decode_named(bytes, true, true)
 }
@@ -212,7 +215,9 @@ pub fn is_name_field(field: &[u8; 32]) -> bool
 
 /// The dimensions of a node as numbers: 0 where a dimension is not hexadecimal.
 pub fn dimensions_of(header: &NodeHeader) -> [u64; 12]
-    ensures { result ≡ map (λ i. unwrap_or (hex_value (take (dimension_digits header.now.wide) (slice_index_or header.now.dims i []))) 0) (count_up 12) }
+    ensures { result ≡ map (λ i.
+        unwrap_or (hex_value (take (dimension_digits header.now.wide)
+        (slice_index_or header.now.dims i []))) 0) (count_up 12) }
 {
     node::numbers(&header.dims, header.wide)
 }

@@ -129,7 +129,8 @@ fn one_dimension_fault(bytes: &[u8], wide: bool, i: usize) -> Option<BadField>
 fn dimension_fault(bytes: &[u8], wide: bool, rank: usize) -> Option<BadField>
     requires long { length bytes.now ≡ node_length wide }
     requires few { rank ≤ 12 }
-    ensures { option_map fault result ≡ first_broken (map (dimension_row wide 0 bytes.now) (count_up rank)) }
+    ensures { option_map fault result ≡ first_broken
+        (map (dimension_row wide 0 bytes.now) (count_up rank)) }
 {
     for i in 0..rank {
         if let Some(bad) = one_dimension_fault(bytes, wide, i) {
@@ -181,7 +182,8 @@ pub fn first_fault(bytes: &[u8], wide: bool, named: bool) -> Option<BadField>
 fn dimension(bytes: &[u8], wide: bool, i: usize) -> [u8; 16]
     requires long { length bytes.now ≡ node_length wide }
     requires within { i < 12 }
-    ensures digits { take (dimension_digits wide) result ≡ field_in bytes.now (node_dimension wide 0 i) }
+    ensures digits { take (dimension_digits wide) result
+        ≡ field_in bytes.now (node_dimension wide 0 i) }
     ensures narrow { zeros_behind wide result }
 {
     let at = node_dimension(wide, i);
@@ -192,7 +194,8 @@ fn dimension(bytes: &[u8], wide: bool, i: usize) -> [u8; 16]
 
 fn dimensions(bytes: &[u8], wide: bool) -> [[u8; 16]; 12]
     requires { length bytes.now ≡ node_length wide }
-    ensures digits { map (take (dimension_digits wide)) result ≡ map (λ i. field_in bytes.now (node_dimension wide 0 i)) (count_up 12) }
+    ensures digits { map (take (dimension_digits wide)) result
+        ≡ map (λ i. field_in bytes.now (node_dimension wide 0 i)) (count_up 12) }
     ensures narrow { AllByRecursion (zeros_behind wide) result }
 {
     [
@@ -248,7 +251,9 @@ fn number_of(dimension: &[u8; 16], wide: bool) -> u64
 
 /// The dimensions as numbers.
 pub fn numbers(dims: &[[u8; 16]; 12], wide: bool) -> [u64; 12]
-    ensures { result ≡ map (λ i. unwrap_or (hex_value (take (dimension_digits wide) (slice_index_or dims.now i []))) 0) (count_up 12) }
+    ensures { result ≡ map (λ i.
+        unwrap_or (hex_value (take (dimension_digits wide) (slice_index_or dims.now i []))) 0)
+        (count_up 12) }
 {
     [
         number_of(&dims[0], wide),
@@ -273,7 +278,8 @@ fn put_dimensions(into: &mut [u8], at: usize, dims: &[[u8; 16]; 12], digits: usi
     requires few { digits ≤ 16 }
     ensures end { result ≡ at + 12 * digits }
     ensures long { length into.new ≡ length into.old }
-    ensures text { take result into.new ≡ take at into.old ++ flat_map (λ d. d) (map (take digits) dims.now) }
+    ensures text { take result into.new ≡ take at into.old
+        ++ flat_map (λ d. d) (map (take digits) dims.now) }
 {
     let mut end = at;
     for i in 0..12 {

@@ -25,7 +25,8 @@ impl<D: Device> BlockCache<D> {
     /// Where there is no memory for it, it gives the device back with `AdfError::Memory`.
     pub fn new(alloc: Global, device: D, capacity: usize) -> Result<BlockCache<D>, (AdfError, D)>
         requires { 1 ≤ capacity }
-        ensures made { IfOk result (λ c. (device_in c ≡ device) × (blocks_in c ≡ []) × (capacity_of c ≡ capacity)) }
+        ensures made { IfOk result (λ c. (device_in c ≡ device) × (blocks_in c ≡ [])
+            × (capacity_of c ≡ capacity)) }
         ensures sound { IfOk result (λ c. IsCache D.state c) }
         ensures refused { IfErr result (λ e. (e.0 ≡ AdfError.Memory) × (e.1 ≡ device)) }
     {
@@ -55,9 +56,11 @@ impl<D: Device> Blocks for BlockCache<D> {
         requires { IsCache D.state self.old }
         ensures sound { IsCache D.state self.new }
         ensures bound { IfOk result (λ n. n ≤ 2 ^ 44) }
-        ensures told { IfOk result (λ n. IfSome (D.state (device_in self.old)).held (λ bytes. n ≡ length bytes)) }
+        ensures told { IfOk result (λ n. IfSome (D.state (device_in self.old)).held (λ bytes. n
+            ≡ length bytes)) }
         ensures effect { ReadsFew 1 (D.state (device_in self.old)) (D.state (device_in self.new)) }
-        ensures cause { HasCause (D.state (device_in self.old)).faults (D.state (device_in self.new)).faults result }
+        ensures cause { HasCause (D.state (device_in self.old)).faults
+            (D.state (device_in self.new)).faults result }
         ensures fault { IfErr result (λ e. e ≡ BlockFault.Read) }
         ensures read { Reads (D.state (device_in self.old)) (D.state (device_in self.new)) }
         ensures kept { blocks_in self.new ≡ blocks_in self.old }
@@ -72,11 +75,15 @@ impl<D: Device> Blocks for BlockCache<D> {
         ensures sound { IsCache D.state self.new }
         ensures told { OnOk result (Gives (D.state (device_in self.old)).held n into.new) }
         ensures effect { ReadsFew 1 (D.state (device_in self.old)) (D.state (device_in self.new)) }
-        ensures cause { HasCause (D.state (device_in self.old)).faults (D.state (device_in self.new)).faults result }
+        ensures cause { HasCause (D.state (device_in self.old)).faults
+            (D.state (device_in self.new)).faults result }
         ensures fault { IfErr result (λ e. e ≡ BlockFault.Read) }
-        ensures hit { IfSome (lookup (nat_eq n) (blocks_in self.old)) (λ block. IsOk result × (into.new ≡ block) × (D.state (device_in self.new) ≡ D.state (device_in self.old))) }
-        ensures miss { lookup (nat_eq n) (blocks_in self.old) ≡ None → Reads (D.state (device_in self.old)) (D.state (device_in self.new)) }
-        ensures touched { OnOk result (IsTouched (capacity_of self.old) (n, into.new) (blocks_in self.old) (blocks_in self.new)) }
+        ensures hit { IfSome (lookup (nat_eq n) (blocks_in self.old)) (λ block. IsOk result
+            × (into.new ≡ block) × (D.state (device_in self.new) ≡ D.state (device_in self.old))) }
+        ensures miss { lookup (nat_eq n) (blocks_in self.old) ≡ None
+            → Reads (D.state (device_in self.old)) (D.state (device_in self.new)) }
+        ensures touched { OnOk result (IsTouched (capacity_of self.old) (n, into.new)
+            (blocks_in self.old) (blocks_in self.new)) }
         ensures kept { OnErr result (blocks_in self.new ≡ blocks_in self.old) }
         ensures capacity { capacity_of self.new ≡ capacity_of self.old }
     {
@@ -96,15 +103,21 @@ impl<D: Device> Blocks for BlockCache<D> {
     fn write_block(&mut self, n: u32, from: &[u8; 4096]) -> Result<(), BlockFault>
         requires { IsCache D.state self.old }
         ensures sound { IsCache D.state self.new }
-        ensures written { OnOk result ((D.state (device_in self.new)).held ≡ with_block (D.state (device_in self.old)).held n from.now) }
-        ensures torn { OnErr result (Tears (D.state (device_in self.old)).held n (D.state (device_in self.new)).held) }
+        ensures written { OnOk result ((D.state (device_in self.new)).held
+            ≡ with_block (D.state (device_in self.old)).held n from.now) }
+        ensures torn { OnErr result (Tears (D.state (device_in self.old)).held n
+            (D.state (device_in self.new)).held) }
         ensures effect { Writes (D.state (device_in self.old)) (D.state (device_in self.new)) }
-        ensures cause { HasCause (D.state (device_in self.old)).faults (D.state (device_in self.new)).faults result }
-        ensures lost { HasCause (D.state (device_in self.old)).lost (D.state (device_in self.new)).lost result }
+        ensures cause { HasCause (D.state (device_in self.old)).faults
+            (D.state (device_in self.new)).faults result }
+        ensures lost { HasCause (D.state (device_in self.old)).lost
+            (D.state (device_in self.new)).lost result }
         ensures fault { IfErr result (λ e. e ≡ BlockFault.Write) }
-        ensures touched { OnOk result (IsTouched (capacity_of self.old) (n, from.now) (blocks_in self.old) (blocks_in self.new)) }
+        ensures touched { OnOk result (IsTouched (capacity_of self.old) (n, from.now)
+            (blocks_in self.old) (blocks_in self.new)) }
         ensures gone { OnErr result (lookup (nat_eq n) (blocks_in self.new) ≡ None) }
-        ensures others { OnErr result (blocks_in self.new ≡ remove_entry (nat_eq n) (blocks_in self.old)) }
+        ensures others { OnErr result (blocks_in self.new
+            ≡ remove_entry (nat_eq n) (blocks_in self.old)) }
         ensures capacity { capacity_of self.new ≡ capacity_of self.old }
     {
         match self.device.write_block(n, from) {

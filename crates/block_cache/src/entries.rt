@@ -78,8 +78,10 @@ impl Kept {
     /// Copies a block that is kept, which then goes first, and says whether it is kept.
     pub(crate) fn recall(&mut self, n: u32, into: &mut [u8; 4096]) -> bool
         ensures found { result ≡ true → lookup (nat_eq n) self.old.entries ≡ Some into.new }
-        ensures first { result ≡ true → self.new.entries ≡ touch self.old.cap (n, into.new) self.old.entries }
-        ensures missed { result ≡ false → (lookup (nat_eq n) self.old.entries ≡ None) × (self.new ≡ self.old) × (into.new ≡ into.old) }
+        ensures first { result ≡ true → self.new.entries
+            ≡ touch self.old.cap (n, into.new) self.old.entries }
+        ensures missed { result ≡ false → (lookup (nat_eq n) self.old.entries ≡ None)
+            × (self.new ≡ self.old) × (into.new ≡ into.old) }
         ensures cap { self.new.cap ≡ self.old.cap }
     {
         let _ = self.blocks.len();
@@ -104,8 +106,10 @@ impl Kept {
 
     // Writes over a block that is kept, which then goes first, and says whether it is kept.
     fn replace(&mut self, n: u32, from: &[u8; 4096]) -> bool
-        ensures first { result ≡ true → self.new.entries ≡ touch self.old.cap (n, from.now) self.old.entries }
-        ensures missed { result ≡ false → (lookup (nat_eq n) self.old.entries ≡ None) × (self.new ≡ self.old) }
+        ensures first { result ≡ true → self.new.entries
+            ≡ touch self.old.cap (n, from.now) self.old.entries }
+        ensures missed { result ≡ false → (lookup (nat_eq n) self.old.entries ≡ None)
+            × (self.new ≡ self.old) }
         ensures cap { self.new.cap ≡ self.old.cap }
     {
         let _ = self.blocks.len();

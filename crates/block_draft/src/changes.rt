@@ -96,7 +96,9 @@ impl Changes {
     pub(crate) fn patch(&mut self, n: u32, start: usize, from: &[u8]) -> bool
         requires { start + length from.now ≤ 4096 }
         ensures found { result ≡ true → IsSome (block_in self.old n) }
-        ensures patched { result ≡ true → IfSome (block_in self.old n) (λ was. Puts n (overwritten was start from.now) self.old self.new) }
+        ensures patched { result ≡ true
+            → IfSome (block_in self.old n) (λ was.
+            Puts n (overwritten was start from.now) self.old self.new) }
         ensures missed { result ≡ false → (block_in self.old n ≡ None) × (self.new ≡ self.old) }
         ensures was { AreChanges self.old }
         ensures valid { AreChanges self.new }

@@ -67,15 +67,23 @@ impl<B: Blocks> Draft<B> {
     pub fn commit(&mut self) -> Result<(), BlockFault>
         requires { B.is_sound (blocks_below self.old) }
         ensures sound { B.is_sound (blocks_below self.new) }
-        ensures written { OnOk result ((B.state (blocks_below self.new)).held ≡ shown_in B.state self.old) }
-        ensures count { OnOk result ((B.state (blocks_below self.new)).writes ≡ raised_by (length (changes_in self.old)) (B.state (blocks_below self.old)).writes) }
-        ensures torn { OnErr result (IsPartWritten (B.state (blocks_below self.old)).held (B.state (blocks_below self.old)).writes (changes_in self.old) (B.state (blocks_below self.new)).held (B.state (blocks_below self.new)).writes) }
+        ensures written { OnOk result ((B.state (blocks_below self.new)).held
+            ≡ shown_in B.state self.old) }
+        ensures count { OnOk result ((B.state (blocks_below self.new)).writes
+            ≡ raised_by (length (changes_in self.old)) (B.state (blocks_below self.old)).writes) }
+        ensures torn { OnErr result (IsPartWritten (B.state (blocks_below self.old)).held
+            (B.state (blocks_below self.old)).writes (changes_in self.old)
+            (B.state (blocks_below self.new)).held (B.state (blocks_below self.new)).writes) }
         ensures ascend { AreChanges (changes_in self.old) }
-        ensures few { (B.state (blocks_below self.new)).writes ≤ (B.state (blocks_below self.old)).writes + waiting_in self.old }
+        ensures few { (B.state (blocks_below self.new)).writes
+            ≤ (B.state (blocks_below self.old)).writes + waiting_in self.old }
         ensures empty { changes_in self.new ≡ [] }
-        ensures reads { (B.state (blocks_below self.new)).reads ≡ (B.state (blocks_below self.old)).reads }
-        ensures cause { HasCause (B.state (blocks_below self.old)).faults (B.state (blocks_below self.new)).faults result }
-        ensures lost { HasCause (B.state (blocks_below self.old)).lost (B.state (blocks_below self.new)).lost result }
+        ensures reads { (B.state (blocks_below self.new)).reads
+            ≡ (B.state (blocks_below self.old)).reads }
+        ensures cause { HasCause (B.state (blocks_below self.old)).faults
+            (B.state (blocks_below self.new)).faults result }
+        ensures lost { HasCause (B.state (blocks_below self.old)).lost
+            (B.state (blocks_below self.new)).lost result }
         ensures fault { IfErr result (λ e. e ≡ BlockFault.Write) }
     {
         let done = write_all(&mut self.changed.blocks, &mut self.blocks);
@@ -91,10 +99,15 @@ fn write_all<B: Blocks>(
 ) -> Result<(), BlockFault>
     requires { B.is_sound blocks.old }
     ensures sound { B.is_sound blocks.new }
-    ensures written { OnOk result ((B.state blocks.new).held ≡ image_of (B.state blocks.old).held changes.old.entries) }
-    ensures count { OnOk result ((B.state blocks.new).writes ≡ raised_by (length changes.old.entries) (B.state blocks.old).writes) }
-    ensures torn { OnErr result (IsPartWritten (B.state blocks.old).held (B.state blocks.old).writes changes.old.entries (B.state blocks.new).held (B.state blocks.new).writes) }
-    ensures few { (B.state blocks.new).writes ≤ (B.state blocks.old).writes + length changes.old.entries }
+    ensures written { OnOk result ((B.state blocks.new).held
+        ≡ image_of (B.state blocks.old).held changes.old.entries) }
+    ensures count { OnOk result ((B.state blocks.new).writes
+        ≡ raised_by (length changes.old.entries) (B.state blocks.old).writes) }
+    ensures torn { OnErr result (IsPartWritten (B.state blocks.old).held
+        (B.state blocks.old).writes changes.old.entries (B.state blocks.new).held
+        (B.state blocks.new).writes) }
+    ensures few { (B.state blocks.new).writes ≤ (B.state blocks.old).writes
+        + length changes.old.entries }
     ensures reads { (B.state blocks.new).reads ≡ (B.state blocks.old).reads }
     ensures cause { HasCause (B.state blocks.old).faults (B.state blocks.new).faults result }
     ensures lost { HasCause (B.state blocks.old).lost (B.state blocks.new).lost result }
@@ -111,10 +124,12 @@ impl<B: Blocks> Draft<B> {
     fn load(&mut self, n: u32, into: &mut [u8; 4096]) -> Result<(), BlockFault>
         requires { B.is_sound self.old.blocks }
         ensures sound { B.is_sound self.new.blocks }
-        ensures told { OnOk result (Gives (image_of (B.state self.old.blocks).held self.old.changed) n into.new) }
+        ensures told { OnOk result (Gives (image_of (B.state self.old.blocks).held self.old.changed)
+            n into.new) }
         ensures changed { self.new.changed ≡ self.old.changed }
         ensures effect { ReadsFew 1 (B.state self.old.blocks) (B.state self.new.blocks) }
-        ensures cause { HasCause (B.state self.old.blocks).faults (B.state self.new.blocks).faults result }
+        ensures cause { HasCause (B.state self.old.blocks).faults
+            (B.state self.new.blocks).faults result }
         ensures fault { IfErr result (λ e. e ≡ BlockFault.Read) }
     {
         if self.changed.copy(n, into) {
@@ -130,10 +145,12 @@ impl<B: Blocks> Draft<B> {
     fn fetch(&mut self, n: u32, whole: bool, into: &mut [u8; 4096]) -> Result<(), BlockFault>
         requires { B.is_sound self.old.blocks }
         ensures sound { B.is_sound self.new.blocks }
-        ensures told { OnOk result (whole ≡ false → Gives (B.state self.old.blocks).held n into.new) }
+        ensures told { OnOk result (whole ≡ false
+            → Gives (B.state self.old.blocks).held n into.new) }
         ensures changed { self.new.changed ≡ self.old.changed }
         ensures effect { ReadsFew 1 (B.state self.old.blocks) (B.state self.new.blocks) }
-        ensures cause { HasCause (B.state self.old.blocks).faults (B.state self.new.blocks).faults result }
+        ensures cause { HasCause (B.state self.old.blocks).faults
+            (B.state self.new.blocks).faults result }
     {
         if whole {
             return Ok(());
@@ -146,11 +163,14 @@ impl<B: Blocks> Draft<B> {
         requires sound { B.is_sound self.old.blocks }
         requires within { start + length from.now ≤ 4096 }
         ensures sound { B.is_sound self.new.blocks }
-        ensures written { OnOk result (Both (Wrote (n * 4096 + start) from.now) (image_of (B.state self.old.blocks).held self.old.changed) (image_of (B.state self.new.blocks).held self.new.changed)) }
+        ensures written { OnOk result (Both (Wrote (n * 4096 + start) from.now)
+            (image_of (B.state self.old.blocks).held self.old.changed)
+            (image_of (B.state self.new.blocks).held self.new.changed)) }
         ensures refused { OnErr result (self.new.changed ≡ self.old.changed) }
         ensures only { ChangesOnly n self.old.changed self.new.changed }
         ensures effect { ReadsFew 1 (B.state self.old.blocks) (B.state self.new.blocks) }
-        ensures cause { IfErr result (λ e. e ≡ SpaceFault.Read → Rose (B.state self.old.blocks).faults (B.state self.new.blocks).faults) }
+        ensures cause { IfErr result (λ e. e ≡ SpaceFault.Read
+            → Rose (B.state self.old.blocks).faults (B.state self.new.blocks).faults) }
     {
         if self.changed.patch(n, start, from) {
             return Ok(());
@@ -183,7 +203,9 @@ impl<B: Blocks> ReadBytes for Draft<B> {
         requires sound { B.is_sound (blocks_below self.old) }
         requires within { place + length into.old ≤ 2 ^ 44 }
         ensures told { OnOk result (GivesAt (shown_in B.state self.old) place into.new) }
-        ensures reads { AnswersRead (is_sound_below B.is_sound) (shown_in B.state) (state_below B.state) waiting_in (ReadsFew (blocks_of place (length into.old))) HasRisen self.old self.new result }
+        ensures reads { AnswersRead (is_sound_below B.is_sound) (shown_in B.state)
+            (state_below B.state) waiting_in (ReadsFew (blocks_of place (length into.old))) HasRisen
+            self.old self.new result }
         ensures changed { changes_in self.new ≡ changes_in self.old }
     {
         let mut block = [0; 4096];
@@ -211,12 +233,19 @@ impl<B: Blocks> Space for Draft<B> {
         requires sound { B.is_sound (blocks_below self.old) }
         requires within { place + length from.now ≤ 2 ^ 44 }
         ensures sound { B.is_sound (blocks_below self.new) }
-        ensures written { OnOk result (Both (Wrote place from.now) (shown_in B.state self.old) (shown_in B.state self.new)) }
-        ensures refused { OnErr result (Both (KeepsOutside place (length from.now)) (shown_in B.state self.old) (shown_in B.state self.new)) }
-        ensures effect { ReadsFew (blocks_of place (length from.now)) (B.state (blocks_below self.old)) (B.state (blocks_below self.new)) }
-        ensures cause { IfErr result (λ e. e ≡ SpaceFault.Read → Rose (B.state (blocks_below self.old)).faults (B.state (blocks_below self.new)).faults) }
-        ensures waiting { waiting_in self.new ≤ waiting_in self.old + blocks_of place (length from.now) }
-        ensures changed { ChangesWithin place (length from.now) (changes_in self.old) (changes_in self.new) }
+        ensures written { OnOk result (Both (Wrote place from.now) (shown_in B.state self.old)
+            (shown_in B.state self.new)) }
+        ensures refused { OnErr result (Both (KeepsOutside place (length from.now))
+            (shown_in B.state self.old) (shown_in B.state self.new)) }
+        ensures effect { ReadsFew (blocks_of place (length from.now))
+            (B.state (blocks_below self.old)) (B.state (blocks_below self.new)) }
+        ensures cause { IfErr result (λ e. e ≡ SpaceFault.Read
+            → Rose (B.state (blocks_below self.old)).faults
+            (B.state (blocks_below self.new)).faults) }
+        ensures waiting { waiting_in self.new ≤ waiting_in self.old
+            + blocks_of place (length from.now) }
+        ensures changed { ChangesWithin place (length from.now) (changes_in self.old)
+            (changes_in self.new) }
     {
         let mut done = 0;
         while done < from.len() {

@@ -14,15 +14,22 @@ use crate::calls::Call;
 
 /// A line makes at most one call.
 pub fn one_call_a_line()
-    ensures { (line : List ℕ) (one other : Call) → IsLine line one → IsLine line other → one ≡ other }
+    ensures { (line : List ℕ) (one other : Call) → IsLine line one → IsLine line other
+        → one ≡ other }
 {}
 
 /// The plain spelling of each call is a line that makes it.
 pub fn calls_have_lines()
     ensures open { (number limit : ℕ) → IsFileNumber number → IsLimit limit →
-        IsLine (codes "open " ++ (decimal number ++ (codes " new " ++ decimal limit))) (Call.Open number New limit) }
-    ensures close { (number : ℕ) → IsFileNumber number → IsLine (codes "close " ++ decimal number) (Call.Close number) }
-    ensures children { (node : NodeId) → IsId node → IsLine (codes "children " ++ node_text node) (Call.Ask (ChildrenOf node)) }
-    ensures create { (parent : NodeId) (name label : List ℕ) → IsId parent → All (λ b. b < 256) name → All (λ b. b < 256) label →
-        IsLine (codes "edit create " ++ (node_text parent ++ (codes " " ++ (spelled name ++ (codes " " ++ spelled label))))) (Call.Edit (Create parent name label ∷ [])) }
+        IsLine (codes "open " ++ (decimal number ++ (codes " new " ++ decimal limit)))
+        (Call.Open number New limit) }
+    ensures close { (number : ℕ) → IsFileNumber number
+        → IsLine (codes "close " ++ decimal number) (Call.Close number) }
+    ensures children { (node : NodeId) → IsId node
+        → IsLine (codes "children " ++ node_text node) (Call.Ask (ChildrenOf node)) }
+    ensures create { (parent : NodeId) (name label : List ℕ) → IsId parent → All (λ b. b < 256) name
+        → All (λ b. b < 256) label →
+        IsLine (codes "edit create " ++ (node_text parent
+        ++ (codes " " ++ (spelled name ++ (codes " " ++ spelled label)))))
+        (Call.Edit (Create parent name label ∷ [])) }
 {}

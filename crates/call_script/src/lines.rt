@@ -32,7 +32,8 @@ pub fn read_line(alloc: Global, line: &[u8]) -> Result<Call, AdfError>
 // The call of all tokens of a line.
 fn read_tokens(alloc: Global, mut tokens: Tokens) -> Result<Call, AdfError>
     ensures found { IfOk result (AreTokens (tokens_left tokens.entry)) }
-    ensures none { result ≡ Err AdfError.Syntax → (call : Call) → ¬ AreTokens (tokens_left tokens.entry) call }
+    ensures none { result ≡ Err AdfError.Syntax → (call : Call)
+        → ¬ AreTokens (tokens_left tokens.entry) call }
     ensures why { IfErr result IsRefusal }
 {
     let word = tokens.next().ok_or(AdfError::Syntax)?;
@@ -47,7 +48,9 @@ fn read_tokens(alloc: Global, mut tokens: Tokens) -> Result<Call, AdfError>
 // The call of the tokens behind `open`.
 fn read_open(mut tokens: Tokens) -> Option<Call>
     ensures found { IfSome result (AreTokens (word_of Keyword.Open ∷ tokens_left tokens.entry)) }
-    ensures none { IsNone result → (number : ℕ) (mode : OpenMode) (limit : ℕ) → ¬ AreTokens (word_of Keyword.Open ∷ tokens_left tokens.entry) (Call.Open number mode limit) }
+    ensures none { IsNone result → (number : ℕ) (mode : OpenMode) (limit : ℕ)
+        → ¬ AreTokens (word_of Keyword.Open ∷ tokens_left tokens.entry)
+        (Call.Open number mode limit) }
 {
     let number = read_file_number(tokens.next()?)?;
     let mode = read_mode(tokens.next()?)?;
@@ -65,7 +68,8 @@ fn read_open(mut tokens: Tokens) -> Option<Call>
 // The call of the tokens behind `close`.
 fn read_close(mut tokens: Tokens) -> Option<Call>
     ensures found { IfSome result (AreTokens (word_of Keyword.Close ∷ tokens_left tokens.entry)) }
-    ensures none { IsNone result → (number : ℕ) → ¬ AreTokens (word_of Keyword.Close ∷ tokens_left tokens.entry) (Call.Close number) }
+    ensures none { IsNone result → (number : ℕ)
+        → ¬ AreTokens (word_of Keyword.Close ∷ tokens_left tokens.entry) (Call.Close number) }
 {
     let number = read_file_number(tokens.next()?)?;
     if tokens.next().is_some() {
@@ -76,8 +80,11 @@ fn read_close(mut tokens: Tokens) -> Option<Call>
 
 // The query of the tokens behind `children`.
 fn read_children(mut tokens: Tokens) -> Option<Query>
-    ensures found { IfSome result (AreQueryTokens (word_of Keyword.Children ∷ tokens_left tokens.entry)) }
-    ensures none { IsNone result → (node : NodeId) → ¬ AreQueryTokens (word_of Keyword.Children ∷ tokens_left tokens.entry) (Query.ChildrenOf node) }
+    ensures found { IfSome result (AreQueryTokens
+        (word_of Keyword.Children ∷ tokens_left tokens.entry)) }
+    ensures none { IsNone result → (node : NodeId)
+        → ¬ AreQueryTokens (word_of Keyword.Children ∷ tokens_left tokens.entry)
+        (Query.ChildrenOf node) }
 {
     let node = read_node(tokens.next()?)?;
     if tokens.next().is_some() {
@@ -89,7 +96,8 @@ fn read_children(mut tokens: Tokens) -> Option<Query>
 // The edits of the tokens behind `edit`.
 fn read_edits(alloc: Global, tokens: Tokens) -> Result<Edits, AdfError>
     ensures found { IfOk result (AreGroupTokens (tokens_left tokens.entry)) }
-    ensures none { result ≡ Err AdfError.Syntax → (edits : List Edit) → ¬ AreGroupTokens (tokens_left tokens.entry) edits }
+    ensures none { result ≡ Err AdfError.Syntax → (edits : List Edit)
+        → ¬ AreGroupTokens (tokens_left tokens.entry) edits }
     ensures why { IfErr result IsRefusal }
 {
     let edit = read_edit(alloc, tokens)?;
@@ -101,7 +109,8 @@ fn read_edits(alloc: Global, tokens: Tokens) -> Result<Edits, AdfError>
 // The edit of some tokens.
 fn read_edit(alloc: Global, mut tokens: Tokens) -> Result<Edit, AdfError>
     ensures found { IfOk result (AreEditTokens (tokens_left tokens.entry)) }
-    ensures none { result ≡ Err AdfError.Syntax → (edit : Edit) → ¬ AreEditTokens (tokens_left tokens.entry) edit }
+    ensures none { result ≡ Err AdfError.Syntax → (edit : Edit)
+        → ¬ AreEditTokens (tokens_left tokens.entry) edit }
     ensures why { IfErr result IsRefusal }
 {
     let word = tokens.next().ok_or(AdfError::Syntax)?;
@@ -112,8 +121,11 @@ fn read_edit(alloc: Global, mut tokens: Tokens) -> Result<Edit, AdfError>
 
 // The edit of the tokens behind `create`.
 fn read_create(alloc: Global, mut tokens: Tokens) -> Result<Edit, AdfError>
-    ensures found { IfOk result (AreEditTokens (edit_word_of EditKeyword.Create ∷ tokens_left tokens.entry)) }
-    ensures none { result ≡ Err AdfError.Syntax → (parent : NodeId) (name label : List ℕ) → ¬ CreatesBy (edit_word_of EditKeyword.Create ∷ tokens_left tokens.entry) parent name label }
+    ensures found { IfOk result (AreEditTokens
+        (edit_word_of EditKeyword.Create ∷ tokens_left tokens.entry)) }
+    ensures none { result ≡ Err AdfError.Syntax → (parent : NodeId) (name label : List ℕ)
+        → ¬ CreatesBy (edit_word_of EditKeyword.Create
+        ∷ tokens_left tokens.entry) parent name label }
     ensures why { IfErr result IsRefusal }
 {
     let (id, name, label) = three_tokens(tokens).ok_or(AdfError::Syntax)?;

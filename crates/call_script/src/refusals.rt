@@ -34,7 +34,9 @@ pub(crate) fn append_number_field(line: &mut Vec<u8>, number: u64) -> Result<(),
 /// Appends a refused group of edits.
 pub(crate) fn append_edit_refusal(line: &mut Vec<u8>, refusal: &EditError) -> Result<(), AdfError>
     requires { HasRule refusal.now.error }
-    ensures done { OnOk result (line.new.items ≡ line.old.items ++ (refusal_text refusal.now.error ++ place_text refusal.now.error refusal.now.at)) }
+    ensures done { OnOk result (line.new.items
+        ≡ line.old.items ++ (refusal_text refusal.now.error
+        ++ place_text refusal.now.error refusal.now.at)) }
     ensures memory { IfErr result (λ e. e ≡ AdfError.Memory) }
 {
     append_refusal(line, &refusal.error)?;
@@ -74,7 +76,8 @@ fn append_refusal_fields(line: &mut Vec<u8>, error: &AdfError) -> Result<(), Adf
 }
 
 fn append_two(line: &mut Vec<u8>, first: u64, second: u64) -> Result<(), AdfError>
-    ensures done { OnOk result (line.new.items ≡ line.old.items ++ (number_field first ++ number_field second)) }
+    ensures done { OnOk result (line.new.items
+        ≡ line.old.items ++ (number_field first ++ number_field second)) }
     ensures memory { IfErr result (λ e. e ≡ AdfError.Memory) }
 {
     append_number_field(line, first)?;

@@ -38,7 +38,9 @@ fn append_answer(alloc: Global, line: &mut Vec<u8>, answer: &Answer) -> Result<(
 }
 
 fn append_children(alloc: Global, line: &mut Vec<u8>, children: &[Child]) -> Result<(), AdfError>
-    ensures done { OnOk result (line.new.items ≡ line.old.items ++ (codes "ok" ++ number_field (length children.now) ++ flat_map child_field children.now)) }
+    ensures done { OnOk result (line.new.items
+        ≡ line.old.items ++ (codes "ok" ++ number_field (length children.now)
+        ++ flat_map child_field children.now)) }
     ensures memory { IfErr result (λ e. e ≡ AdfError.Memory) }
 {
     append(line, b"ok")?;
@@ -60,7 +62,8 @@ fn append_child(alloc: Global, line: &mut Vec<u8>, child: &Child) -> Result<(), 
 }
 
 fn append_created(line: &mut Vec<u8>, nodes: &[NodeId]) -> Result<(), AdfError>
-    ensures done { OnOk result (line.new.items ≡ line.old.items ++ (codes "ok" ++ flat_map node_field nodes.now)) }
+    ensures done { OnOk result (line.new.items
+        ≡ line.old.items ++ (codes "ok" ++ flat_map node_field nodes.now)) }
     ensures memory { IfErr result (λ e. e ≡ AdfError.Memory) }
 {
     append(line, b"ok")?;

@@ -20,7 +20,8 @@ impl<'a> Tokens<'a> {
 
     /// The next token: none behind the last.
     pub(crate) fn next(&mut self) -> Option<&'a [u8]>
-        ensures { MatchOption result (tokens_left self.old ≡ []) (λ token. tokens_left self.old ≡ token.now ∷ tokens_left self.new) }
+        ensures { MatchOption result (tokens_left self.old ≡ []) (λ token. tokens_left self.old
+            ≡ token.now ∷ tokens_left self.new) }
     {
         let rest = self.rest?;
         match split_at_byte(rest, b' ') {
@@ -40,7 +41,8 @@ impl<'a> Tokens<'a> {
 pub(crate) fn split_at_byte(text: &[u8], byte: u8) -> Option<(&[u8], &[u8])>
     ensures { MatchOption result
         (All (λ b. (b == byte) ≡ false) text.now)
-        (λ parts. (text.now ≡ parts.0.now ++ (byte ∷ parts.1.now)) × All (λ b. (b == byte) ≡ false) parts.0.now) }
+        (λ parts. (text.now ≡ parts.0.now ++ (byte ∷ parts.1.now))
+        × All (λ b. (b == byte) ≡ false) parts.0.now) }
 {
     let at = text.iter().position(|b| *b == byte)?;
     Some((&text[..at], &text[at + 1..]))

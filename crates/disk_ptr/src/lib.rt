@@ -165,6 +165,7 @@ fn digit(d: u8) -> u8
 /// known by the place that it names.
 pub fn one_spelling()
     ensures again { (p : DiskPtr) → IsWritable p → pointer (pointer_text (view p)) ≡ Some (view p) }
-    ensures apart { (p q : DiskPtr) → IsWritable p → IsWritable q → pointer_text (view p) ≡ pointer_text (view q) → p ≡ q }
+    ensures apart { (p q : DiskPtr) → IsWritable p → IsWritable q
+        → pointer_text (view p) ≡ pointer_text (view q) → p ≡ q }
     ensures known { (p q : DiskPtr) → HasOffset p → HasOffset q → view p ≡ view q → p ≡ q }
 {}

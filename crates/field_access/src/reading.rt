@@ -19,9 +19,11 @@ pub fn read_field<R: ReadBytes, const N: usize>(
 ) -> Result<[u8; N], ReadFault>
     requires sound { R.is_sound bytes.old }
     requires within { place + N ≤ 2 ^ 44 }
-    ensures told { IfOk result (λ text. WhereTold (R.image bytes.old) place N (λ says. text ≡ says)) }
+    ensures told { IfOk result (λ text. WhereTold (R.image bytes.old) place N (λ says. text
+        ≡ says)) }
     ensures long { IfOk result (λ text. length text ≡ N) }
-    ensures reads { AnswersRead R.is_sound R.image R.state R.waiting (ReadsFew (blocks_of place N)) HasRisen bytes.old bytes.new result }
+    ensures reads { AnswersRead R.is_sound R.image R.state R.waiting
+        (ReadsFew (blocks_of place N)) HasRisen bytes.old bytes.new result }
 {
     match read_bytes::<R, N>(bytes, place) {
         Ok(text) => Ok(text),
@@ -33,8 +35,10 @@ pub fn read_field<R: ReadBytes, const N: usize>(
 pub fn has_tag<R: ReadBytes>(bytes: &mut R, place: u64, tag: &[u8; 4]) -> Result<bool, ReadFault>
     requires sound { R.is_sound bytes.old }
     requires within { place + 4 ≤ 2 ^ 44 }
-    ensures told { IfOk result (λ stands. WhereTold (R.image bytes.old) place 4 (λ says. stands ≡ holds says 0 tag.now)) }
-    ensures reads { AnswersRead R.is_sound R.image R.state R.waiting (ReadsFew (blocks_of place 4)) HasRisen bytes.old bytes.new result }
+    ensures told { IfOk result (λ stands. WhereTold (R.image bytes.old) place 4 (λ says. stands
+        ≡ holds says 0 tag.now)) }
+    ensures reads { AnswersRead R.is_sound R.image R.state R.waiting
+        (ReadsFew (blocks_of place 4)) HasRisen bytes.old bytes.new result }
 {
     match read_bytes::<R, 4>(bytes, place) {
         Ok(text) => Ok(fields::holds(&text, 0, tag)),
@@ -46,9 +50,11 @@ pub fn has_tag<R: ReadBytes>(bytes: &mut R, place: u64, tag: &[u8; 4]) -> Result
 pub fn read_pointer<R: ReadBytes>(bytes: &mut R, place: u64) -> Result<Option<DiskPtr>, ReadFault>
     requires sound { R.is_sound bytes.old }
     requires within { place + 12 ≤ 2 ^ 44 }
-    ensures told { IfOk result (λ read. WhereTold (R.image bytes.old) place 12 (λ says. option_map view read ≡ pointer says)) }
+    ensures told { IfOk result (λ read. WhereTold (R.image bytes.old) place 12
+        (λ says. option_map view read ≡ pointer says)) }
     ensures offset { IfOk result (λ read. IfSome read HasOffset) }
-    ensures reads { AnswersRead R.is_sound R.image R.state R.waiting (ReadsFew (blocks_of place 12)) HasRisen bytes.old bytes.new result }
+    ensures reads { AnswersRead R.is_sound R.image R.state R.waiting
+        (ReadsFew (blocks_of place 12)) HasRisen bytes.old bytes.new result }
 {
     match read_bytes::<R, 12>(bytes, place) {
         Ok(text) => Ok(decode(&text)),
@@ -65,9 +71,11 @@ pub fn read_number<R: ReadBytes, const N: usize>(
     requires some { 1 ≤ N }
     requires few { N ≤ 16 }
     requires within { place + N ≤ 2 ^ 44 }
-    ensures told { IfOk result (λ read. WhereTold (R.image bytes.old) place N (λ says. read ≡ hex_value says)) }
+    ensures told { IfOk result (λ read. WhereTold (R.image bytes.old) place N (λ says. read
+        ≡ hex_value says)) }
     ensures small { IfOk result (λ read. IfSome read (λ n. n < 16 ^ N)) }
-    ensures reads { AnswersRead R.is_sound R.image R.state R.waiting (ReadsFew (blocks_of place N)) HasRisen bytes.old bytes.new result }
+    ensures reads { AnswersRead R.is_sound R.image R.state R.waiting
+        (ReadsFew (blocks_of place N)) HasRisen bytes.old bytes.new result }
 {
     match read_bytes::<R, N>(bytes, place) {
         Ok(text) => Ok(read_long_hex(&text)),

@@ -17,9 +17,12 @@ use disk_ptr::{DiskPtr, encode, write_long_hex};
 pub fn write_field<S: Space>(space: &mut S, place: u64, text: &[u8]) -> Result<(), AdfError>
     requires sound { S.is_sound space.old }
     requires within { place + length text.now ≤ 2 ^ 44 }
-    ensures written { OnOk result (Both (Writes place text.now) (S.image space.old) (S.image space.new)) }
-    ensures bytes { Both (ChangesOnly (range place (length text.now) ∷ [])) (S.image space.old) (S.image space.new) }
-    ensures writes { AnswersWrite S.is_sound S.state S.waiting (blocks_of place (length text.now)) (ReadsFew (blocks_of place (length text.now))) (IsRefusal ⊥) space.old space.new result }
+    ensures written { OnOk result (Both (Writes place text.now) (S.image space.old)
+        (S.image space.new)) }
+    ensures bytes { Both (ChangesOnly (range place (length text.now) ∷ [])) (S.image space.old)
+        (S.image space.new) }
+    ensures writes { AnswersWrite S.is_sound S.state S.waiting (blocks_of place (length text.now))
+        (ReadsFew (blocks_of place (length text.now))) (IsRefusal ⊥) space.old space.new result }
 {
     write_bytes(space, place, text)
 }
@@ -29,9 +32,12 @@ pub fn write_pointer<S: Space>(space: &mut S, place: u64, p: DiskPtr) -> Result<
     requires sound { S.is_sound space.old }
     requires within { place + 12 ≤ 2 ^ 44 }
     requires offset { HasOffset p }
-    ensures written { OnOk result (Both (Writes place (pointer_text (view p))) (S.image space.old) (S.image space.new)) }
-    ensures bytes { Both (ChangesOnly (range place 12 ∷ [])) (S.image space.old) (S.image space.new) }
-    ensures writes { AnswersWrite S.is_sound S.state S.waiting (blocks_of place 12) (ReadsFew (blocks_of place 12)) (IsRefusal ⊥) space.old space.new result }
+    ensures written { OnOk result (Both (Writes place (pointer_text (view p))) (S.image space.old)
+        (S.image space.new)) }
+    ensures bytes { Both (ChangesOnly (range place 12 ∷ [])) (S.image space.old)
+        (S.image space.new) }
+    ensures writes { AnswersWrite S.is_sound S.state S.waiting (blocks_of place 12)
+        (ReadsFew (blocks_of place 12)) (IsRefusal ⊥) space.old space.new result }
 {
     write_field(space, place, &encode(p))
 }
@@ -47,9 +53,12 @@ pub fn write_number<S: Space, const N: usize>(
     requires few { N ≤ 16 }
     requires fits { value < 16 ^ N }
     requires within { place + N ≤ 2 ^ 44 }
-    ensures written { OnOk result (Both (Writes place (hex_text N value)) (S.image space.old) (S.image space.new)) }
-    ensures bytes { Both (ChangesOnly (range place N ∷ [])) (S.image space.old) (S.image space.new) }
-    ensures writes { AnswersWrite S.is_sound S.state S.waiting (blocks_of place N) (ReadsFew (blocks_of place N)) (IsRefusal ⊥) space.old space.new result }
+    ensures written { OnOk result (Both (Writes place (hex_text N value)) (S.image space.old)
+        (S.image space.new)) }
+    ensures bytes { Both (ChangesOnly (range place N ∷ [])) (S.image space.old)
+        (S.image space.new) }
+    ensures writes { AnswersWrite S.is_sound S.state S.waiting (blocks_of place N)
+        (ReadsFew (blocks_of place N)) (IsRefusal ⊥) space.old space.new result }
 {
     let mut text = [0u8; N];
     write_long_hex(value, &mut text);

@@ -15,7 +15,8 @@ pub(crate) fn push_run(runs: &mut Vec<Run>, run: Run) -> Result<(), AdfError>
     requires room { EndsWithin (2 ^ 30) run }
     requires maximal { AreMaximal runs.old.items }
     requires within { All (EndsWithin (2 ^ 30)) runs.old.items }
-    ensures spread { OnOk result (spread runs.new.items ≡ spread runs.old.items ++ elements_of run) }
+    ensures spread { OnOk result (spread runs.new.items
+        ≡ spread runs.old.items ++ elements_of run) }
     ensures maximal { OnOk result (AreMaximal runs.new.items) }
     ensures within { OnOk result (All (EndsWithin (2 ^ 30)) runs.new.items) }
     ensures memory { IfErr result (λ error. error ≡ AdfError.Memory) }
@@ -36,7 +37,8 @@ fn push_row(runs: &mut Vec<Run>, axis: Axis, row: u64) -> Result<(), AdfError>
     requires room { axis.dim * (row + 1) ≤ 2 ^ 30 }
     requires maximal { AreMaximal runs.old.items }
     requires within { All (EndsWithin (2 ^ 30)) runs.old.items }
-    ensures spread { OnOk result (spread runs.new.items ≡ spread runs.old.items ++ row_of axis row) }
+    ensures spread { OnOk result (spread runs.new.items
+        ≡ spread runs.old.items ++ row_of axis row) }
     ensures maximal { OnOk result (AreMaximal runs.new.items) }
     ensures within { OnOk result (All (EndsWithin (2 ^ 30)) runs.new.items) }
     ensures memory { IfErr result (λ error. error ≡ AdfError.Memory) }
@@ -60,7 +62,8 @@ pub(crate) fn push_rows(runs: &mut Vec<Run>, axis: Axis, rows: Run) -> Result<()
     requires room { HasRoom axis.dim rows }
     requires maximal { AreMaximal runs.old.items }
     requires within { All (EndsWithin (2 ^ 30)) runs.old.items }
-    ensures spread { OnOk result (spread runs.new.items ≡ spread runs.old.items ++ flat_map (row_of axis) (elements_of rows)) }
+    ensures spread { OnOk result (spread runs.new.items
+        ≡ spread runs.old.items ++ flat_map (row_of axis) (elements_of rows)) }
     ensures maximal { OnOk result (AreMaximal runs.new.items) }
     ensures within { OnOk result (All (EndsWithin (2 ^ 30)) runs.new.items) }
     ensures memory { IfErr result (λ error. error ≡ AdfError.Memory) }

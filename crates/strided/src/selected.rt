@@ -23,10 +23,12 @@ use std::alloc::Global;
 pub fn runs(alloc: Global, shape: &Shape, selection: &Selection) -> Result<Runs, AdfError>
     requires shape { IsTrue (is_shape true shape.now) }
     requires size { data_size shape.now.kind (dims_of shape.now) ≤ 2 ^ 30 }
-    ensures elements { IfOk result (λ found. spread found ≡ elements (dims_of shape.now) selection.now) }
+    ensures elements { IfOk result (λ found. spread found
+        ≡ elements (dims_of shape.now) selection.now) }
     ensures maximal { IfOk result AreMaximal }
     ensures within { IfOk result (All (EndsWithin (product (dims_of shape.now)))) }
-    ensures range { (result ≡ Err AdfError.BadRange) ↔ IsFalse (selection_fits (dims_of shape.now) selection.now) }
+    ensures range { (result ≡ Err AdfError.BadRange)
+        ↔ IsFalse (selection_fits (dims_of shape.now) selection.now) }
     ensures refused { IfErr result IsRunsRefusal }
 {
     if !selection_fits(shape, selection) {
@@ -62,7 +64,8 @@ fn runs_of_rows(alloc: Global, axis: Axis, rows: &[Run]) -> Result<Vec<Run>, Adf
     requires fits { Fits axis }
     requires room { All (HasRoom axis.dim) rows.now }
     requires maximal { AreMaximal rows.now }
-    ensures spread { IfOk result (λ found. spread found.items ≡ flat_map (row_of axis) (spread rows.now)) }
+    ensures spread { IfOk result (λ found. spread found.items
+        ≡ flat_map (row_of axis) (spread rows.now)) }
     ensures maximal { IfOk result (λ found. AreMaximal found.items) }
     ensures memory { IfErr result (λ error. error ≡ AdfError.Memory) }
 {
