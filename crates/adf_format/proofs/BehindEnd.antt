@@ -74,7 +74,7 @@ gap_within end (h ∷ hs) (suc k) g all e = gap_within end hs k g all.1 e
 
 -- ---- ranges that are counted
 
-count_append : (place n : ℕ) (xs ys : List Extent) → count_of place n (xs ++ ys) ≡ count_of place n xs + count_of place n ys
+pub count_append : (place n : ℕ) (xs ys : List Extent) → count_of place n (xs ++ ys) ≡ count_of place n xs + count_of place n ys
 count_append place n [] ys = omega arith
 count_append place n (x ∷ xs) ys =
     let here = cond ((x.place == place) && (x.length == n)) 1 0 in
@@ -88,7 +88,7 @@ counts_itself e es = one_more (e.place == e.place) (e.length == e.length) (grind
     one_more true false p q = cc
     one_more false b p q = cc
 
-counts_more : (e : Extent) (es : List Extent) (place n : ℕ) → 0 < count_of place n es → 0 < count_of place n (e ∷ es)
+pub counts_more : (e : Extent) (es : List Extent) (place n : ℕ) → 0 < count_of place n es → 0 < count_of place n (e ∷ es)
 counts_more e es place n some = plain (cond ((e.place == place) && (e.length == n)) 1 0) (count_of place n es) some
   where
     plain : (a b : ℕ) → 0 < b → 0 < a + b

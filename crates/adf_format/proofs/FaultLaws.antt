@@ -8,15 +8,12 @@ use Rattle.adf_format.specs.Pointer.{place_of}
 use Rattle.adf_format.specs.Tiles.{total_length}
 use Rattle.adf_format.specs.Checks.{Row, Fault, first_broken, Walk, finished, stopped, passed}
 use Rattle.adf_format.specs.FirstFault.{Visit, FreeVisit, free_rows, next_free, free_extent, first_frees, chunk_length, FreeWalk, NodeWalk, is_wide, end_in, has_room, found_extents, FirstFault, in_head, at_node, in_list, in_tiling, HasNoFault, head_rows, is_misplaced, extents_found, IsLeastMisplaced}
-use Rattle.adf_format.proofs.WalkLaws.{all_kept, node_walk_ends}
+use Rattle.adf_format.proofs.WalkLaws.{all_kept, node_walk_ends, room_tells}
 use Rattle.adf_format.proofs.CheckLaws.{one_outcome}
 
 both_kept : (a b : Bool) → (a && b) ≡ true → (a ≡ true) × (b ≡ true)
 both_kept true b e = (refl, e)
 both_kept false b e = cc
-
-room_tells : (end used length : ℕ) → has_room end used length ≡ true → used + length ≤ end + 1
-room_tells end used length e = grind (arith, nat_tests)
 
 free_total : (image : List ℕ) (seen : List FreeVisit) (v : FreeVisit) → total_length (map (free_extent image) (seen ++ v ∷ [])) ≡ total_length (map (free_extent image) seen) + chunk_length image v.place
 free_total image [] v = omega arith

@@ -28,11 +28,11 @@ unrolled image v = unroll image (256 - length v.path) v
 abbrev AreNear : List Visit → Type 0
 AreNear vs = AllByRecursion (λ (v : Visit). length v.path ≤ 255) vs
 
-left_part : (rows others : List Row) → AllByRecursion (λ (r : Row). r.kept ≡ true) (rows ++ others) → AllByRecursion (λ (r : Row). r.kept ≡ true) rows
+pub left_part : (rows others : List Row) → AllByRecursion (λ (r : Row). r.kept ≡ true) (rows ++ others) → AllByRecursion (λ (r : Row). r.kept ≡ true) rows
 left_part [] others h = tt
 left_part (r ∷ rows) others h = (h.0, left_part rows others h.1)
 
-right_part : (rows others : List Row) → AllByRecursion (λ (r : Row). r.kept ≡ true) (rows ++ others) → AllByRecursion (λ (r : Row). r.kept ≡ true) others
+pub right_part : (rows others : List Row) → AllByRecursion (λ (r : Row). r.kept ≡ true) (rows ++ others) → AllByRecursion (λ (r : Row). r.kept ≡ true) others
 right_part [] others h = h
 right_part (r ∷ rows) others h = right_part rows others h.1
 
@@ -54,7 +54,7 @@ third false b c d e = absurd (no_way e)
     no_way e = cc
 
 -- a row among others that are kept
-one_part : (a b c d e : List Row) (r : Row) (rest : List Row) → AllByRecursion (λ (r : Row). r.kept ≡ true) (a ++ (r ∷ rest) ++ b ++ c ++ d ++ e) → r.kept ≡ true
+pub one_part : (a b c d e : List Row) (r : Row) (rest : List Row) → AllByRecursion (λ (r : Row). r.kept ≡ true) (a ++ (r ∷ rest) ++ b ++ c ++ d ++ e) → r.kept ≡ true
 one_part a b c d e r rest h =
     let h1 = left_part (a ++ (r ∷ rest) ++ b ++ c ++ d) e h in
     let h2 = left_part (a ++ (r ∷ rest) ++ b ++ c) d h1 in

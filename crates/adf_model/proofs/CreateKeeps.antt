@@ -12,6 +12,7 @@ use Rattle.adf_model.specs.Tests.{Test, checked}
 use Rattle.adf_format.specs.Tree.{Node, Tree, node_at, children_at, children_of, depth_of, first_named, is_link, IsNode, IsTree}
 use Rattle.adf_model.specs.Edits.{apply, create_tests, given_children, new_node, with_new}
 use Rattle.adf_model.proofs.Created.{IsTree-created}
+use Rattle.adf_model.proofs.Basics.{passed}
 
 -- none of the tests holds
 abbrev NoneHolds : List Test → Type 0
@@ -24,14 +25,6 @@ no_way h = cc
 one_more : {A : Type 0} (b : Bool) (e : AdfError) (rest : Result A AdfError) (a : A) → (if b then Err e else rest) ≡ Ok a → (b ≡ false) × (rest ≡ Ok a)
 one_more true e rest a h = absurd (no_way h)
 one_more false e rest a h = (refl, h)
-
--- a result that is no refusal has passed all tests
-passed : {A : Type 0} (tests : List Test) (r : Result A AdfError) (a : A) → checked tests r ≡ Ok a → NoneHolds tests × (r ≡ Ok a)
-passed [] r a h = (tt, h)
-passed (test ∷ tests) r a h =
-    let first = one_more test.0 test.1 (checked tests r) a h in
-    let rest = passed tests r a first.1 in
-    ((first.0, rest.0), rest.1)
 
 not_false : (b : Bool) → not b ≡ false → b ≡ true
 not_false true e = refl

@@ -32,7 +32,7 @@ use Rattle.adf_model.proofs.TableMoved.{filled, filled_fills}
 use Rattle.adf_model.proofs.TableGrown.{moved_laid_out}
 use Rattle.adf_model.proofs.TableGrown as grown
 use Rattle.adf_model.specs.Untouched.{Stays, KeepsHead, KeepsDims}
-use Rattle.adf_model.proofs.CreateStays.{all_left}
+use Rattle.adf_model.proofs.CreateStays.{all_left, there}
 use Rattle.adf_model.proofs.ChildPlaced.{with_header, with_moved, set_append, child_placed}
 
 -- ---- what the tests of a create tell
@@ -252,11 +252,6 @@ module _ (limit : ℕ) (image : List ℕ) (tree after : Tree) (p q : Placement) 
         entry_kept entry.0 entry.1 entry.2 (omega (arith, fits, small)) c.0 c.2)
     | inr c ↦ (let fits = c.1 in moved_kept (omega (arith, fits, small)) c.0 c.2)
   ]
-
--- a node that is there
-there : (o : Option Node) → is_some o ≡ true → (node : Node) × (o ≡ Some node)
-there None h = absurd (not_true h)
-there (Some node) h = (node, refl)
 
 module _ (limit : ℕ) (image : List ℕ) (tree after : Tree) (p q : Placement) (at : NodeId) (name label : List ℕ) (is : IsCreation limit image tree after p q at name label) where
   all_kept : ((new : List ℕ) → WritesAll (create_writes image tree p q at.serial name label) image new → LaysOut new after q)

@@ -65,7 +65,7 @@ one_apart ranges end (x ∷ xs) e all c = elim (Contains-append_cases (x ∷ [])
         beyond : (k : ℕ) → suc k < 1 → ⊥
         beyond k lt = omega (arith, lt)
 
-there : (o : Option Node) → is_some o ≡ true → (node : Node) × (o ≡ Some node)
+pub there : (o : Option Node) → is_some o ≡ true → (node : Node) × (o ≡ Some node)
 there None h = absurd (not_true h)
 there (Some node) h = (node, refl)
 

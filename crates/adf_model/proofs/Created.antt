@@ -9,6 +9,7 @@ use Rattle.std.proofs.lemmas.Bool.Decides.{eqb_tells}
 use Rattle.adf_format.specs.Names.{is_lk}
 use Rattle.adf_format.specs.Tree.{Node, Tree, node_at, children_of, children_at, name_of, name_at, is_link, is_among, IsAmong, families, climb, lineage, depth_of, first_named, AllDiffer, IsNode, IsTree}
 use Rattle.adf_model.proofs.LineageLemmas.{grown, Unborn, climb-grown, climb-new}
+use Rattle.adf_model.proofs.Basics.{among_head, or_none}
 
 -- at a serial stands the new node, or its parent with one more child, or what stood there
 data Place (nodes : List (Option Node)) (p q : ℕ) (x y now : Option Node) : Type 0 where
@@ -50,10 +51,6 @@ or_right : (a b : Bool) → b ≡ true → (a || b) ≡ true
 or_right true b e = refl
 or_right false b e = e
 
-or_none : (a b : Bool) → (a || b) ≡ false → (a ≡ false) × (b ≡ false)
-or_none true b e = absurd (not_true (sym e))
-or_none false b e = (refl, e)
-
 -- what stands in a list with one more
 pub among_split : (xs : List ℕ) (n c : ℕ) → IsAmong (xs ++ n ∷ []) c → IsAmong xs c ⊎ (c ≡ n)
 among_split [] n c h = elim (eqb_tells n c) [ inl e ↦ inr (sym e.1) | inr e ↦ inl (elim (or_parts (n == c) false h) [ inl t ↦ absurd (not_true (sym e.0 ∙ t)) | inr t ↦ t ]) ]
@@ -67,7 +64,7 @@ map_agree : (xs : List ℕ) (f g : ℕ → List ℕ) → ((c : ℕ) → IsAmong 
 map_agree [] f g same = refl
 map_agree (x ∷ xs) f g same = ap (λ t. t ∷ map f xs) (same x (elim (eqb_tells x x) [ inl e ↦ ap (λ b. b || is_among xs x) e.0 | inr e ↦ absurd (e.1 refl) ])) ∙ ap (λ ts. g x ∷ ts) (map_agree xs f g (λ c h. same c (or_right (x == c) (is_among xs c) h)))
 
-if_none : (b : Bool) (c : ℕ) (o : Option ℕ) → is_some (if b then Some c else o) ≡ false → (b ≡ false) × (is_some o ≡ false)
+pub if_none : (b : Bool) (c : ℕ) (o : Option ℕ) → is_some (if b then Some c else o) ≡ false → (b ≡ false) × (is_some o ≡ false)
 if_none true c o e = absurd (not_true (sym e))
 if_none false c o e = (refl, e)
 
@@ -75,9 +72,6 @@ not_or : (a b : Bool) → IsTrue (not a) → b ≡ false → IsTrue (not (a || (
 not_or true b n e = n
 not_or false true n e = absurd (not_true (sym e))
 not_or false false n e = refl
-
-among_head : (x : ℕ) (xs : List ℕ) → IsAmong (x ∷ xs) x
-among_head x xs = elim (eqb_tells x x) [ inl e ↦ ap (λ b. b || is_among xs x) e.0 | inr e ↦ absurd (e.1 refl) ]
 
 -- texts that differ, and one more that none of them is
 pub AllDiffer-append : (xs : List ℕ) (f : ℕ → List ℕ) (w : List ℕ) → AllDiffer (map f xs) → ((c : ℕ) → IsAmong xs c → bytes_eq (f c) w ≡ false) → AllDiffer (map f xs ++ w ∷ [])
@@ -88,7 +82,7 @@ AllDiffer-append (x ∷ xs) f w differ new = (
 )
 
 -- no child of the list has the name
-none_named : (tree : Tree) (xs : List ℕ) (w : List ℕ) → is_some (first_named tree xs w) ≡ false → (c : ℕ) → IsAmong xs c → bytes_eq (name_at tree c) w ≡ false
+pub none_named : (tree : Tree) (xs : List ℕ) (w : List ℕ) → is_some (first_named tree xs w) ≡ false → (c : ℕ) → IsAmong xs c → bytes_eq (name_at tree c) w ≡ false
 none_named tree [] w none c h = absurd (not_true h)
 none_named tree (x ∷ xs) w none c h =
     let parts = if_none (bytes_eq (name_at tree x) w) x (first_named tree xs w) none in
@@ -110,7 +104,7 @@ past_end : {A : Type 0} (xs : List A) (d : A) → get_or xs (length xs) d ≡ d
 past_end [] d = refl
 past_end (x ∷ xs) d = past_end xs d
 
-inside_of : (nodes : List (Option Node)) (p : ℕ) (pn : Node) → get_or nodes p None ≡ Some pn → p < length nodes
+pub inside_of : (nodes : List (Option Node)) (p : ℕ) (pn : Node) → get_or nodes p None ≡ Some pn → p < length nodes
 inside_of [] p pn e = absurd (not_there pn e)
 inside_of (x ∷ nodes) zero pn e = omega arith
 inside_of (x ∷ nodes) (suc p) pn e = let rest : p < length nodes = inside_of nodes p pn e in omega (arith, rest)

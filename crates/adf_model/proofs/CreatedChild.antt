@@ -12,10 +12,7 @@ use Rattle.adf_model.proofs.Basics.{NoneHolds, passed, same_Ok, not_false, not_l
 use Rattle.adf_model.proofs.CreateKeeps.{fresh_node}
 use Rattle.adf_model.proofs.Created.{lineage_old, lineage_new}
 use Rattle.adf_model.proofs.CreatedNodes.{at_new, at_set, at_other, there_inside}
-
-there : (o : Option Node) → is_some o ≡ true → (node : Node) × (o ≡ Some node)
-there None h = absurd (not_true h)
-there (Some node) h = (node, refl)
+use Rattle.adf_model.proofs.CreateStays.{there}
 
 module _ (tree after : Tree) (at : NodeId) (name label : List ℕ) (is : IsTree tree) (reached : IsReached tree (Edit.Create at name label)) (made : apply tree (Edit.Create at name label) ≡ Ok after) where
   parent : (node : Node) × (node_at tree at.serial ≡ Some node)

@@ -34,7 +34,7 @@ use Rattle.adf_model.proofs.FilledGaps.{filler_of, get_replicate}
 pub padded_long : (text : List ℕ) → length text ≤ 32 → length (text_field 32 text) ≡ 32
 padded_long text short = length-append text (replicate (32 - length text) 32) ∙ ap (λ n. length text + n) (length-replicate (32 - length text) 32) ∙ omega (arith, short)
 
-all_same : (w n : ℕ) (text : List ℕ) → length text ≡ w → AllWide w (replicate n text)
+pub all_same : (w n : ℕ) (text : List ℕ) → length text ≡ w → AllWide w (replicate n text)
 all_same w zero text long i t e = absurd (not_there t e)
 all_same w (suc n) text long zero t e = ap length (sym (same_Some text t e)) ∙ long
 all_same w (suc n) text long (suc i) t e = all_same w n text long i t e
@@ -90,7 +90,7 @@ pub pointer_same : (old new : List ℕ) (offset : ℕ) (o : Option ℕ) → fiel
 pointer_same old new offset None e h = ap pointer e ∙ h
 pointer_same old new offset (Some place) e h = ap pointer e ∙ h
 
-room : (w : Bool) (i : ℕ) → i < 12 → 130 + dimension_digits w * i + dimension_digits w ≤ node_length w
+pub room : (w : Bool) (i : ℕ) → i < 12 → 130 + dimension_digits w * i + dimension_digits w ≤ node_length w
 room false i lt = omega (arith, lt)
 room true i lt = omega (arith, lt)
 
@@ -168,7 +168,7 @@ threads_stay old new gaps now all fill same t =
 
 -- ---- the bytes of fillers
 
-z_at : (n place b : ℕ) (image : List ℕ) → IsFiller (field image place n) → place ≤ b → b < place + n → b < length image → slice_get image b ≡ Some 122
+pub z_at : (n place b : ℕ) (image : List ℕ) → IsFiller (field image place n) → place ≤ b → b < place + n → b < length image → slice_get image b ≡ Some 122
 z_at n place b image f low high inside =
     sym (get_field image place n (b - place) b (omega (arith, low, high)) (omega (arith, low)))
     ∙ ap (λ xs. slice_get xs (b - place)) f ∙ get_replicate (length (field image place n)) (b - place) 122 (let e = length-field image place n in omega (arith, e, low, high, inside))

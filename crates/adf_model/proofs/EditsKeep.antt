@@ -35,7 +35,7 @@ apply_keeps tree after (Link at wanted file path) is at_hand e = let p = some_of
 first_live : (a b : Bool) → (not a || b) ≡ false → a ≡ true
 first_live a b e = not_false a (or_none (not a) b e).0
 
-at_followed : (tree : Tree) (at node : NodeId) → ◌≡◌ {A = Option NodeId} (Some at) (Some node) → is_live tree at.serial ≡ true → IsSome (node_at tree node.serial)
+pub at_followed : (tree : Tree) (at node : NodeId) → ◌≡◌ {A = Option NodeId} (Some at) (Some node) → is_live tree at.serial ≡ true → IsSome (node_at tree node.serial)
 at_followed tree at node e live = subst (λ (n : NodeId). IsSome (node_at tree n.serial)) (same_Some at node e) live
 
 none_some : {P : Type 0} (node : NodeId) → ◌≡◌ {A = Option NodeId} None (Some node) → P
@@ -60,7 +60,7 @@ file_step_keeps tree after writable edit is e =
     apply_keeps tree after edit is (record { live = followed_live tree edit all.0.0; no_link = all.0.1.0 }) all.1
 
 -- and so does a group
-one_step : (r : Result Tree AdfError) (at : ℕ) (next : Tree → Result Work EditError) (work : Work) → at_edit at r next ≡ Ok work → (tree : Tree) × (r ≡ Ok tree) × (next tree ≡ Ok work)
+pub one_step : (r : Result Tree AdfError) (at : ℕ) (next : Tree → Result Work EditError) (work : Work) → at_edit at r next ≡ Ok work → (tree : Tree) × (r ≡ Ok tree) × (next tree ≡ Ok work)
 one_step (Ok tree) at next work e = (tree, refl, e)
 one_step (Err error) at next work e = absurd (not_Err e)
 

@@ -13,7 +13,7 @@ use Rattle.adf_format.specs.LaysOut.{IsGap, StandsBefore, AreGapsInOrder}
 use Rattle.adf_format.specs.HeapRule.{before_gaps, put_gap}
 use Rattle.adf_model.specs.Creation.{AllFillers}
 use Rattle.adf_format.proofs.HeapLaws.{in_range, cover-before_gaps}
-use Rattle.adf_format.proofs.GapLaws.{BeginFrom, before_gaps_in_order}
+use Rattle.adf_format.proofs.GapLaws.{BeginFrom, before_gaps_in_order, begin_step, before_gaps_begin}
 use Rattle.adf_format.proofs.CountLaws.{none_holds}
 use Rattle.adf_format.proofs.FrameLaws.{field_step, put_first}
 use Rattle.adf_format.proofs.FieldLaws.{get_field}
@@ -30,14 +30,6 @@ cover-put_gap new [] b = refl
 cover-put_gap new (g ∷ gs) b = put_step new g gs b (nat_lt new.place g.place) (cover-put_gap new gs b)
 
 -- ---- order
-
-begin_step : (place : ℕ) (g h : Extent) (gs : List Extent) (t : Bool) → place ≤ g.place → BeginFrom place (cond t (extent ExtentKind.Filler g.place (g.length + h.length) ∷ gs) (g ∷ h ∷ gs))
-begin_step place g h gs true le = le
-begin_step place g h gs false le = le
-
-before_gaps_begin : (place : ℕ) (g : Extent) (gs : List Extent) → place ≤ g.place → BeginFrom place (before_gaps g gs)
-before_gaps_begin place g [] le = le
-before_gaps_begin place g (h ∷ gs) le = begin_step place g h gs (is_filler g && is_filler h && (end_of g == h.place)) le
 
 put_begin_step : (place : ℕ) (new g : Extent) (gs : List Extent) (t : Bool) → place ≤ new.place → place ≤ g.place → BeginFrom place (cond t (before_gaps new (g ∷ gs)) (before_gaps g (put_gap new gs)))
 put_begin_step place new g gs true le lf = before_gaps_begin place new (g ∷ gs) le

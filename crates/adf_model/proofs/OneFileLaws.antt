@@ -147,7 +147,7 @@ slot_twice [] number one other = refl
 slot_twice (file ∷ files) zero one other = refl
 slot_twice (file ∷ files) (suc number) one other = ap (λ fs. file ∷ fs) (slot_twice files number one other)
 
-opened_now : (files : Files) (number : ℕ) (opened next : Open) → open_at files number ≡ Some opened → open_at (with_slot files number (Live next)) number ≡ Some next
+pub opened_now : (files : Files) (number : ℕ) (opened next : Open) → open_at files number ≡ Some opened → open_at (with_slot files number (Live next)) number ≡ Some next
 opened_now [] number opened next e = absurd (not_there opened e)
 opened_now (file ∷ files) zero opened next e = refl
 opened_now (file ∷ files) (suc number) opened next e = opened_now files number opened next e

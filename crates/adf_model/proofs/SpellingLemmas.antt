@@ -37,7 +37,7 @@ percent_encode-spelled (b ∷ bs) some small = all_encoded (b ∷ bs) small
 
 -- ---- what is spelled is read again
 
-items_plain : (b : ℕ) (items : List ℕ) → is_plain b ≡ true → items_text (b ∷ items) ≡ byte_before (Some b) (items_text items)
+pub items_plain : (b : ℕ) (items : List ℕ) → is_plain b ≡ true → items_text (b ∷ items) ≡ byte_before (Some b) (items_text items)
 unfolding items_text
 items_plain b [] plain = cond-true _ _ _ plain
 items_plain b (c ∷ []) plain = cond-true _ _ _ plain

@@ -14,7 +14,7 @@ use Rattle.adf_format.specs.Checks.{Fault, first_broken, Walk, finished, stopped
 use Rattle.adf_format.specs.FirstFault.{NodeWalk, visit_rows, visit_extents, found_extents, has_room, end_in, is_wide, Visit, child_visits}
 use Rattle.adf_format.specs.SoundPart.{tree_of}
 use Rattle.adf_format.proofs.PointerLaws.{pointer_tells}
-use Rattle.adf_format.proofs.WalkLaws.{all_kept, total_length-append}
+use Rattle.adf_format.proofs.WalkLaws.{all_kept, total_length-append, roomy, room_tells}
 use Rattle.adf_model.proofs.Basics.{not_there, same_Some, and_parts}
 
 -- ---- digits
@@ -94,15 +94,6 @@ place_small bytes = by_pointer (pointer bytes) refl
     by_pointer (Some (To place)) e = let t = pointer_tells bytes (To place) e in placed t.0 t.1 place (hex_small (take 8 bytes) 8 t.0 first_short t.2) t.4.0 t.4.1
 
 -- ---- how many nodes there are
-
-room_tells : (end used length : ℕ) → has_room end used length ≡ true → used + length ≤ end + 1
-room_tells end used length e = grind (arith, nat_tests)
-
--- a node that breaks no rule has room for its header behind all extents before it
-roomy : (image : List ℕ) (wide : Bool) (end : ℕ) (seen : List Visit) (v : Visit) → first_broken (visit_rows image wide end seen v) ≡ None
-    → 266 + total_length (found_extents image wide seen) + node_length wide ≤ end + 1
-unfolding visit_rows
-roomy image wide end seen v e = room_tells end (266 + total_length (found_extents image wide seen)) (node_length wide) (all_kept (visit_rows image wide end seen v) e).1.1.0
 
 long : (image : List ℕ) (wide : Bool) (v : Visit) → 1 ≤ total_length (visit_extents image wide v)
 unfolding visit_extents

@@ -18,12 +18,13 @@ use Rattle.adf_format.specs.Checks.{Row, first_broken}
 use Rattle.adf_format.specs.FirstFault.{NodeWalk, head_rows, row_of_length, header_rows, end_rows, end_in, is_wide, Visit, ChunkVisit, fits, visit_rows, node_rows, text_rows, number_rows, pointer_rows, shape_rows, dimension_row, entry_rows, count_row, chunk_rows, data_rows, is_named, type_or_mt, count_up, children_in, table_in, dims_in, chunks_in, chunk_length, payloads_in, payload_total, agrees}
 use Rattle.adf_format.specs.SoundPart.{tree_of, data_when, children_among, node_of_visit, visit_number}
 use Rattle.adf_format.proofs.FieldLaws.{inner_field, length-field}
-use Rattle.adf_format.proofs.RowLaws.{kept_index}
+use Rattle.adf_format.proofs.RowLaws.{kept_index, length-counted}
 use Rattle.adf_format.proofs.TreeLaws.{at_in, node_at-tree_of}
 use Rattle.adf_format.proofs.WalkLaws.{all_kept}
 use Rattle.adf_model.proofs.Basics.{not_true, not_there, same_Some, and_parts}
-use Rattle.adf_model.proofs.WalkRows.{Passed, walk_passes, left_part, right_part}
+use Rattle.adf_model.proofs.WalkRows.{Passed, walk_passes}
 use Rattle.adf_model.proofs.WalkCounts.{number_small}
+use Rattle.adf_format.proofs.NumberLaws.{left_part, right_part}
 
 abbrev pub Kept : List Row → Type 0
 Kept rows = AllByRecursion (λ (r : Row). r.kept ≡ true) rows
@@ -151,10 +152,6 @@ rank_kept false false rank e h = some rank e
   where
     some : (n : ℕ) → (n == 0) ≡ false → nat_le 1 n ≡ true
     some n e = grind (arith, nat_tests)
-
-pub length-counted : {A : Type 0} (f : ℕ → A) (a n : ℕ) → length (map f (range_with_len a n)) ≡ n
-length-counted f a zero = refl
-length-counted f a (suc n) = ap suc (length-counted f (a + 1) n)
 
 all_counted : (test : ℕ → Bool) (f : ℕ → ℕ) (a n : ℕ) → ((i : ℕ) → i < n → test (f (a + i)) ≡ true) → list_all test (map f (range_with_len a n)) ≡ true
 all_counted test f a zero each = refl

@@ -1,6 +1,6 @@
 //! What is a shape, and how long data are. No check takes memory.
 
-ghost use Rattle.std.specs.Prelude.{◌≡◌};
+ghost use Rattle.std.specs.Prelude.{◌≡◌, true, false};
 ghost use Rattle.adf_format.specs.Names.{element_size, is_rank_of, is_dimension};
 ghost use Rattle.std.specs.List.{list_all};
 ghost use Rattle.adf_model.specs.Shapes.{is_shape, dims_of, shape_size};

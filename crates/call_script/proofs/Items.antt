@@ -10,14 +10,9 @@ use Rattle.percent_encoding.proofs.PercentLemmas.{IsByte}
 use Rattle.adf_format.specs.Hex.{digit_value}
 use Rattle.adf_model.specs.Spelling.{is_plain, byte_before, items_text, text_of}
 use Rattle.call_script.proofs.Pieces.{Lacks}
+use Rattle.adf_model.proofs.SpellingLemmas.{items_plain}
 
 -- ---- one item
-
-items_plain : (b : ℕ) (items : List ℕ) → is_plain b ≡ true → items_text (b ∷ items) ≡ byte_before (Some b) (items_text items)
-unfolding items_text
-items_plain b [] plain = cond-true _ _ _ plain
-items_plain b (c ∷ []) plain = cond-true _ _ _ plain
-items_plain b (c ∷ d ∷ items) plain = cond-true _ _ _ plain
 
 is_some_before : (b : ℕ) (o : Option (List ℕ)) → is_some (byte_before (Some b) o) ≡ is_some o
 is_some_before b None = refl

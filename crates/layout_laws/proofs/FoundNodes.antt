@@ -24,7 +24,7 @@ use Rattle.adf_format.proofs.TreeLaws.{number_of-path, number_in, at_in, node_at
 use Rattle.adf_format.proofs.WalkLaws.{all_kept}
 use Rattle.adf_model.proofs.Basics.{and_parts, not_true, same_Some, equal}
 use Rattle.adf_model.proofs.WalkNodes.{Kept, visit_kept, visit_named, end_inside}
-use Rattle.adf_model.proofs.WalkRows.{Passed, walk_passes, left_part, right_part}
+use Rattle.adf_model.proofs.WalkRows.{Passed, walk_passes}
 use Rattle.adf_model.proofs.WalkTree.{child_in}
 use Rattle.layout_laws.specs.FoundLayout.{parts_at, placement_of, table_part, chunk_part, chunk_table_part}
 use Rattle.layout_laws.proofs.Frames.{ChunkTableRead, ChunkRead, Chunk, table_spelled, chunk_table_spelled, chunks_spelled}
@@ -32,6 +32,7 @@ use Rattle.layout_laws.proofs.HeaderRead.{header_says, header_read}
 use Rattle.layout_laws.proofs.NodeRules.{payloads_again, at_counted}
 use Rattle.layout_laws.proofs.Rows.{le_of, place_tells, fits_tells}
 use Rattle.layout_laws.proofs.VisitExtents.{length-chunk_visits}
+use Rattle.adf_format.proofs.NumberLaws.{left_part, right_part}
 
 -- ---- the rows of a visit that broke none
 

@@ -11,8 +11,8 @@ use Rattle.adf_format.proofs.FieldLaws.{inner_field}
 use Rattle.adf_format.proofs.RowLaws.{holds_tells, kept_index}
 use Rattle.adf_model.proofs.Basics.{and_parts}
 use Rattle.adf_model.proofs.WalkNodes.{Kept}
-use Rattle.adf_model.proofs.WalkRows.{left_part, right_part}
 use Rattle.layout_laws.proofs.Rows.{kept-append, kept_counted, both, le_of, of_le, holds_of, place_tells, points_place, points_to, pointer_to_of, pointer_to_tells, fits_of, fits_tells}
+use Rattle.adf_format.proofs.NumberLaws.{left_part, right_part}
 
 plus_none : (c : ℕ) → c + 0 ≡ c
 plus_none c = omega arith

@@ -20,13 +20,14 @@ use Rattle.adf_format.proofs.HeapSteps.{cover-append}
 use Rattle.adf_format.proofs.WalkLaws.{all_kept}
 use Rattle.adf_model.proofs.Basics.{and_parts, or_none, equal}
 use Rattle.adf_model.proofs.WalkNodes.{Kept}
-use Rattle.adf_model.proofs.WalkRows.{walk_passes, right_part}
+use Rattle.adf_model.proofs.WalkRows.{walk_passes}
 use Rattle.layout_laws.specs.FoundLayout.{FillGaps, placement_of}
 use Rattle.layout_laws.proofs.FoundLayoutLaws.{laid_out}
 use Rattle.layout_laws.proofs.FoundNodes.{RowsKept, rows_kept, unless_kept}
 use Rattle.layout_laws.proofs.Frames.{Chunk, chunks_spelled}
 use Rattle.layout_laws.proofs.GapsLeft.{scan, gaps_ranges, gaps_order, gaps_inside, gaps_beyond}
 use Rattle.layout_laws.proofs.Rows.{le_of, differ_of, fits_tells}
+use Rattle.adf_format.proofs.NumberLaws.{right_part}
 
 -- ---- extents that end by a place
 

@@ -12,15 +12,15 @@ use Rattle.adf_format.specs.Placement.{TablePart}
 use Rattle.adf_format.specs.LaysOut.{chunk_pointer, entry_count}
 use Rattle.adf_format.specs.FirstFault.{text_rows, number_rows, pointer_rows, dimension_row, shape_rows, node_rows, type_or_mt, has_type, is_pointer_for, count_up, dims_in, children_in, entries_in, table_in, chunk_count, chunk_in, chunks_in, chunk_visits, listed_chunks}
 use Rattle.adf_format.proofs.FieldLaws.{length-field}
-use Rattle.adf_format.proofs.RowLaws.{holds_tells, number_tells, padded-trimmed, type_tells, kept_index}
+use Rattle.adf_format.proofs.RowLaws.{holds_tells, number_tells, padded-trimmed, type_tells, kept_index, length-counted}
 use Rattle.adf_model.proofs.Basics.{and_parts}
-use Rattle.adf_model.proofs.WalkNodes.{Kept, length-counted}
-use Rattle.adf_model.proofs.WalkRows.{left_part, right_part}
+use Rattle.adf_model.proofs.WalkNodes.{Kept}
 use Rattle.layout_laws.specs.FoundLayout.{table_part, chunk_part, chunk_table_part}
 use Rattle.layout_laws.proofs.HeldParts.{in_header, count_in_header, chunk_in_header, dimension_in_header}
 use Rattle.layout_laws.proofs.NodeRules.{at_counted}
 use Rattle.layout_laws.proofs.Rows.{le_of}
 use Rattle.layout_laws.proofs.VisitExtents.{length-chunk_visits}
+use Rattle.adf_format.proofs.NumberLaws.{left_part, right_part}
 
 -- ---- pointers that are blank exactly where a number is 0
 

@@ -21,7 +21,7 @@ use Rattle.adf_format.specs.Placement.{Placement, NodeParts, TablePart, ChunkPar
 use Rattle.adf_format.specs.LaysOut.{HoldsNode, HasTable, HasChunkTable, HasData, fields_of, entry_count, chunk_pointer, payloads}
 use Rattle.adf_format.specs.Checks.{Row}
 use Rattle.adf_format.specs.FirstFault.{ChunkVisit, fits, node_rows, count_row, table_rows, chunk_table_rows, chunk_rows, data_rows, rows_unless, is_same_name, children_in, entries_in, table_in, chunk_count, chunk_in, chunks_in, chunk_visits, chunk_length, dims_in, type_or_mt, payloads_in, payload_total, agrees}
-use Rattle.adf_format.proofs.ClosureLaws.{IsIn}
+use Rattle.adf_format.proofs.ClosureLaws.{IsIn, in_left, in_right}
 use Rattle.adf_model.proofs.Basics.{and_parts, not_true, same_Some, not_there}
 use Rattle.adf_model.proofs.WalkNodes.{Kept, payloads_long}
 use Rattle.layout_laws.specs.FoundLayout.{chunk_part}
@@ -29,7 +29,6 @@ use Rattle.layout_laws.proofs.Rows.{both, le_of, of_le, of_lt, of_equal, points_
 use Rattle.layout_laws.proofs.Frames.{ChunkRead, Chunk, table_unbroken, chunk_table_unbroken, chunks_unbroken, lengths}
 use Rattle.layout_laws.proofs.NodeRead.{header_unbroken, is_nothing}
 use Rattle.layout_laws.proofs.HeldParts.{children_held, entries_held, count_held, name_held, kind_held, dims_held, table_place, chunk_place, chunk_again, spelled_at, entry_places, parts_held}
-use Rattle.layout_laws.proofs.VisitExtents.{in_left, in_right}
 
 mt_of : (kind : DataType) → is_mt kind ≡ true → kind ≡ Mt
 mt_of Mt e = refl

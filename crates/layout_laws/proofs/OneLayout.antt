@@ -55,7 +55,7 @@ given_list g f a (c ∷ cs) h =
     shift : (a i : ℕ) → a + 1 + i ≡ a + suc i
     shift a i = omega arith
 
-few_dims_of : (wide : Bool) (node : Node) → IsNode wide node → length node.dims ≤ 12
+pub few_dims_of : (wide : Bool) (node : Node) → IsNode wide node → length node.dims ≤ 12
 few_dims_of wide node is = le_of (length node.dims) 12 (and_parts _ _ (and_parts _ _ is.shaped).0).1
 
 module _ (image : List ℕ) (tree : Tree) (p : Placement) (l : LaysOut image tree p) where

@@ -9,9 +9,9 @@ use Rattle.adf_format.specs.Tiles.{cover, holds_byte, end_of}
 use Rattle.adf_format.specs.Parts.{node_length, table_length, chunk_table_length}
 use Rattle.adf_format.specs.Placement.{extent, table_extents, chunk_table_extents, chunk_extents, node_extents, head_extents}
 use Rattle.adf_format.specs.FirstFault.{Visit, ChunkVisit, chunk_visits, chunks_in, chunk_in, chunk_count, chunk_length, entries_in, table_in, table_extents_at, chunk_table_extents_at, visit_extents}
-use Rattle.adf_format.proofs.ClosureLaws.{IsIn}
-use Rattle.adf_model.proofs.WalkNodes.{length-counted}
+use Rattle.adf_format.proofs.ClosureLaws.{IsIn, in_left, in_right}
 use Rattle.layout_laws.specs.FoundLayout.{parts_at, chunk_part, chunk_table_part}
+use Rattle.adf_format.proofs.RowLaws.{length-counted}
 
 -- ---- a visit
 
@@ -66,12 +66,3 @@ pub last_byte_held : (e : Extent) → 0 < e.length → (b : ℕ) → b + 1 ≡ e
 last_byte_held e h b k = grind (arith, nat_tests)
 
 -- ---- members
-
-pub in_left : {A : Type 0} (x : A) (xs ys : List A) → IsIn x xs → IsIn x (xs ++ ys)
-in_left x [] ys h = absurd h
-in_left x (z ∷ zs) ys (inl e) = inl e
-in_left x (z ∷ zs) ys (inr h) = inr (in_left x zs ys h)
-
-pub in_right : {A : Type 0} (x : A) (xs ys : List A) → IsIn x ys → IsIn x (xs ++ ys)
-in_right x [] ys h = h
-in_right x (z ∷ zs) ys h = inr (in_right x zs ys h)

@@ -13,7 +13,6 @@ use Rattle.adf_format.specs.Checks.{first_broken}
 use Rattle.adf_format.specs.FirstFault.{Visit, FreeVisit, FreeWalk, free_extent, free_table_rows, found_extents, is_wide, count_up}
 use Rattle.adf_format.proofs.FieldLaws.{inner_field}
 use Rattle.adf_format.proofs.WalkLaws.{all_kept}
-use Rattle.adf_model.proofs.WalkRows.{left_part}
 use Rattle.adf_records.specs.declared.FreeTable.{FreeTable}
 use Rattle.disk_ptr.specs.View.{view}
 use Rattle.layout_laws.specs.ListPass.{IsAtList, named_place, waiting}
@@ -22,6 +21,7 @@ use Rattle.layout_laws.proofs.ListPassLaws as passes
 use Rattle.layout_lint.specs.declared.lists.FreeList.{FreeList}
 use Rattle.layout_lint.specs.declared.lists.Frees.{Frees}
 use Rattle.layout_lint.specs.Lists.{IsListAt, HasLists, HasBegun, HasCome, first_of}
+use Rattle.adf_format.proofs.NumberLaws.{left_part}
 
 -- ---- the table
 

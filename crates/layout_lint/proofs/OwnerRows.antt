@@ -14,11 +14,11 @@ use Rattle.adf_format.specs.FirstFault.{ChunkVisit, tag_rows, count_up, has_room
 use Rattle.adf_format.proofs.WalkLaws.{all_kept, total_length-append}
 use Rattle.adf_model.proofs.Basics.{and_parts}
 use Rattle.adf_model.proofs.WalkNodes.{Kept}
-use Rattle.adf_model.proofs.WalkRows.{left_part, right_part}
 use Rattle.layout_laws.specs.NodePass.{node_rows_at, count_row_at}
 use Rattle.layout_laws.proofs.Frames.{lengths}
 use Rattle.layout_laws.proofs.Rows.{kept_none, kept-append, both, room_of}
 use Rattle.layout_lint.specs.Nodes.{extents_at}
+use Rattle.adf_format.proofs.NumberLaws.{left_part, right_part}
 
 -- ---- the header
 

@@ -29,7 +29,7 @@ use Rattle.adf_model.proofs.PartsApart.{range_out, all_apart, cover_all, cover_p
 use Rattle.tree_laws.specs.Holding.{Holds, MeetsNothing}
 use Rattle.tree_laws.specs.DataSwitch.{Switches, DataSwitches, with_data}
 use Rattle.tree_laws.proofs.Holding.Steps.{within, keeps_but, once, rebuilt}
-use Rattle.tree_laws.proofs.Edits.LabelSet.{set_here, set_there}
+use Rattle.tree_laws.proofs.Edits.LabelSet.{set_here, set_there, one_among}
 
 -- ---- parts that are spelled end by the end of the bytes
 
@@ -94,12 +94,6 @@ module _ (ranges : List Extent) (end : ℕ) (old new : List ℕ) (keeps : KeepsB
       )
 
 -- ---- the switch
-
-one_among : (s k : ℕ) → (t : Bool) → is_among (s ∷ []) k ≡ t → ((t ≡ true) × (k ≡ s)) ⊎ ((t ≡ false) × (k ≢ s))
-one_among s k t e = elim (eqb_tells s k) [
-  | inl h ↦ inl (sym e ∙ ap (λ (b : Bool). b || false) h.0, sym h.1)
-  | inr h ↦ inr (sym e ∙ ap (λ (b : Bool). b || false) h.0, λ same. h.1 (sym same))
-]
 
 module _ (ranges : List Extent) (old new : List ℕ) (tree : Tree) (p : Placement) (taken kept : List Extent) (s : ℕ) (node now : Node) (from : NodeParts) (chunks : List ChunkPart) (table : Option ℕ) (h : Holds old tree p taken)
     (here : node_at tree s ≡ Some node) (stands : parts_of p s ≡ Some from) (same_name : now.name ≡ node.name) (same_list : now.children ≡ node.children) (w : Switches ranges tree.wide now from chunks table taken kept old new) where

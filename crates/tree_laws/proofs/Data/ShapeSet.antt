@@ -30,15 +30,11 @@ use Rattle.tree_laws.proofs.Edits.LabelSet.{written_in}
 use Rattle.tree_laws.proofs.Holding.OwnRanges.{two_written}
 use Rattle.tree_laws.proofs.Tables.TableReplaced.{few_dims}
 use Rattle.tree_laws.proofs.Data.DataSwitched.{data_switches, data_reach, own_parts}
-use Rattle.tree_laws.proofs.Data.DataFields.{shape_written, chunks_written, shape_long, chunks_long}
+use Rattle.tree_laws.proofs.Data.DataFields.{shape_written, chunks_written, shape_long, chunks_long, fits}
 
 least : (wide : Bool) → 246 ≤ node_length wide
 least false = omega arith
 least true = omega arith
-
-fits : (w : Bool) (n : ℕ) → n ≤ 12 → 130 + dimension_digits w * n ≤ chunk_count_at w
-fits false n le = omega (arith, le)
-fits true n le = omega (arith, le)
 
 -- ---- a node's own header
 

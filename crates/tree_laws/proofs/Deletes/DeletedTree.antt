@@ -13,30 +13,15 @@ use Rattle.adf_model.proofs.Basics.{not_true, false_of, same_Some, same_Ok, foun
 use Rattle.adf_model.proofs.DifferLemmas.{others, among-others, others-among}
 use Rattle.adf_model.proofs.SubtreeLemmas.{parent_found, parent_none, parent_is, root_has_none, within_child, within_parent}
 use Rattle.adf_model.proofs.AncestorLemmas.{parent_tells, live_with_child, root_or_child, within_itself, root_outside, parent_outside}
-use Rattle.adf_model.proofs.RenameKeeps.{inside_of}
-use Rattle.adf_model.proofs.DeleteKeeps.{some_of, delete_keeps}
+use Rattle.adf_model.proofs.DeleteKeeps.{some_of, delete_keeps, erased_at, length-erased}
 use Rattle.tree_laws.specs.Deletions.{DeletedInItsTree}
 use Rattle.tree_laws.specs.Deletions.{DeletedAbove}
 use Rattle.tree_laws.proofs.Edits.Plans.{parents_by_lineage}
+use Rattle.adf_model.proofs.Created.{inside_of}
 
 none_either : (b : Bool) → ◌≡◌ {A = Option Node} None (if b then None else None)
 none_either true = refl
 none_either false = refl
-
-erased_at : (k : ℕ) (gone : ℕ → Bool) (nodes : List (Option Node)) (q : ℕ) → get_or (erased_from k gone nodes) q None ≡ (if gone (k + q) then None else get_or nodes q None)
-erased_at k gone [] q = none_either (gone (k + q))
-erased_at k gone (x ∷ nodes) zero = ap (λ i. if gone i then None else x) (same k)
-  where
-    same : (k : ℕ) → k ≡ k + 0
-    same k = omega arith
-erased_at k gone (x ∷ nodes) (suc q) = erased_at (suc k) gone nodes q ∙ ap (λ i. if gone i then None else get_or nodes q None) (same k q)
-  where
-    same : (k q : ℕ) → suc k + q ≡ k + suc q
-    same k q = omega arith
-
-length-erased : (k : ℕ) (gone : ℕ → Bool) (nodes : List (Option Node)) → length (erased_from k gone nodes) ≡ length nodes
-length-erased k gone [] = refl
-length-erased k gone (x ∷ nodes) = ap suc (length-erased (suc k) gone nodes)
 
 zero_plus : (q : ℕ) → 0 + q ≡ q
 zero_plus q = omega arith

@@ -13,7 +13,7 @@ use Rattle.adf_model.proofs.TreeOrder.{times, times-count_by}
 use Rattle.tree_laws.specs.SerialOrder.{GivenBySerial, SortedWalkIsSubtree}
 use Rattle.tree_laws.proofs.Holding.GiftsFolded.{erased_left}
 use Rattle.tree_laws.proofs.Deletes.SubtreeWalked.{walks_list_subtrees, within_lives}
-use Rattle.tree_laws.proofs.Leaving.ListLeaves.{among_live}
+use Rattle.adf_model.proofs.MoveKeeps.{among_live}
 
 -- ---- gifts
 

@@ -8,58 +8,10 @@ use Rattle.adf_model.proofs.Basics.{not_true, false_of, or_parts, or_right, amon
 use Rattle.adf_model.proofs.DifferLemmas.{none_equal, bytes_eq_same}
 use Rattle.adf_model.proofs.SubtreeLemmas.{lineage_child, within_child, within_parent}
 use Rattle.adf_model.proofs.AncestorLemmas.{lineage_root, root_or_child, above_is_shorter, within_itself, parent_outside, parent_tells, live_with_child}
-use Rattle.adf_model.proofs.TreeOrder.{times, total, times-count_by, same_test, times_none, only_live}
+use Rattle.adf_model.proofs.TreeOrder.{times, total, times-count_by, same_test, times_none, only_live, differ_once, among_flat, among_append, sum_one, sum_none, times-append, times-flat, sum_is}
 use Rattle.tree_laws.specs.Deletions.{WalksListSubtrees}
 
 -- ---- how often a number stands in a list
-
-times-append : (q : ℕ) (xs ys : List ℕ) → times q (xs ++ ys) ≡ times q xs + times q ys
-times-append q [] ys = omega arith
-times-append q (x ∷ xs) ys = ap (λ n. cond (x == q) 1 0 + n) (times-append q xs ys) ∙ sym (add_assoc (cond (x == q) 1 0) (times q xs) (times q ys))
-
-sum_is : (t u : Bool) (n m : ℕ) → t ≡ u → n ≡ m → cond t 1 0 + n ≡ cond u 1 0 + m
-sum_is t u n m e f = ap (λ b. cond b 1 0 + n) e ∙ ap (λ k. cond u 1 0 + k) f
-
-times-flat : (q : ℕ) (f : ℕ → List ℕ) (xs : List ℕ) → times q (flat_map f xs) ≡ total (λ x. times q (f x)) xs
-times-flat q f [] = refl
-times-flat q f (x ∷ xs) = times-append q (f x) (flat_map f xs) ∙ ap (λ n. times q (f x) + n) (times-flat q f xs)
-
-sum_none : (f : ℕ → ℕ) (xs : List ℕ) → ((x : ℕ) → IsAmong xs x → f x ≡ 0) → total f xs ≡ 0
-sum_none f [] h = refl
-sum_none f (x ∷ xs) h =
-    let first : f x ≡ 0 = h x (among_head x xs) in
-    let rest : total f xs ≡ 0 = sum_none f xs (λ y k. h y (or_right (x == y) (is_among xs y) k)) in
-    rw (first, rest) refl
-
-sum_one : (f : ℕ → ℕ) (c : ℕ) (xs : List ℕ) → ((x : ℕ) → IsAmong xs x → f x ≡ cond (x == c) 1 0) → total f xs ≡ times c xs
-sum_one f c [] h = refl
-sum_one f c (x ∷ xs) h = ap (λ n. n + total f xs) (h x (among_head x xs)) ∙ ap (λ n. cond (x == c) 1 0 + n) (sum_one f c xs (λ y k. h y (or_right (x == y) (is_among xs y) k)))
-
--- numbers whose texts differ stand once
-differ_once : (f : ℕ → List ℕ) (xs : List ℕ) (c : ℕ) → AllDiffer (map f xs) → IsAmong xs c → times c xs ≡ 1
-differ_once f [] c d h = absurd (not_true h)
-differ_once f (x ∷ xs) c d h = elim (eqb_tells x c) [
-  | inl e ↦ (let none : times c xs ≡ 0 = times_none c xs (false_of (is_among xs c) (λ k. not_true (sym (none_equal (f x) f xs (no_test _ d.0) c k) ∙ ap (λ y. bytes_eq (f x) (f y)) (sym e.1) ∙ bytes_eq_same (f x)))) in sum_is (x == c) true (times c xs) 0 e.0 none)
-  | inr e ↦ (let later : is_among xs c ≡ true = elim (or_parts (x == c) (is_among xs c) h) [ inl t ↦ absurd (not_true (sym e.0 ∙ t)) | inr t ↦ t ] in sum_is (x == c) false (times c xs) 1 e.0 (differ_once f xs c d.1 later))
-]
-  where
-    no_test : (b : Bool) → IsTrue (not b) → b ≡ false
-    no_test true e = absurd (not_true e)
-    no_test false e = refl
-
-among_append : (q : ℕ) (xs ys : List ℕ) → IsAmong (xs ++ ys) q → IsAmong xs q ⊎ IsAmong ys q
-among_append q [] ys h = inr h
-among_append q (x ∷ xs) ys h = elim (or_parts (x == q) (is_among (xs ++ ys) q) h) [
-  | inl t ↦ inl (ap (λ b. b || is_among xs q) t)
-  | inr t ↦ elim (among_append q xs ys t) [ inl k ↦ inl (or_right (x == q) (is_among xs q) k) | inr k ↦ inr k ]
-]
-
-among_flat : (q : ℕ) (f : ℕ → List ℕ) (xs : List ℕ) → IsAmong (flat_map f xs) q → (x : ℕ) × IsAmong xs x × IsAmong (f x) q
-among_flat q f [] h = absurd (not_true h)
-among_flat q f (x ∷ xs) h = elim (among_append q (f x) (flat_map f xs) h) [
-  | inl k ↦ (x, among_head x xs, k)
-  | inr k ↦ (let r = among_flat q f xs k in (r.0, or_right (x == r.0) (is_among xs r.0) r.1, r.2))
-]
 
 -- ---- subtrees
 

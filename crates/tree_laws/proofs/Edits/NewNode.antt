@@ -20,7 +20,7 @@ use Rattle.adf_format.proofs.FrameLaws.{holds_kept}
 use Rattle.adf_format.proofs.SpelledParts.{node_says, chunk_says, framed_body}
 use Rattle.adf_model.specs.Edits.{new_link}
 use Rattle.adf_model.proofs.Basics.{not_there, same_Some}
-use Rattle.adf_model.proofs.CreatedParts.{padded_long}
+use Rattle.adf_model.proofs.CreatedParts.{padded_long, all_same}
 use Rattle.adf_model.proofs.ManyWrites.{stand_reaches, less_or}
 use Rattle.adf_model.proofs.PartsApart.{range_out, all_apart}
 use Rattle.tree_laws.specs.NodeJoin.{LinkIsHeld, link_record, link_parts}
@@ -69,11 +69,6 @@ below true n le = omega (arith, le)
 
 abbrev zero_dimension : Bool → List ℕ
 zero_dimension wide = replicate (dimension_digits wide) 48
-
-all_same : (w n : ℕ) (text : List ℕ) → length text ≡ w → AllWide w (replicate n text)
-all_same w zero text long i t e = absurd (not_there t e)
-all_same w (suc n) text long zero t e = ap length (sym (same_Some text t e)) ∙ long
-all_same w (suc n) text long (suc i) t e = all_same w n text long i t e
 
 first_wide : (w : ℕ) (t : List ℕ) (ts : List (List ℕ)) → length t ≡ w → AllWide w ts → AllWide w (t ∷ ts)
 first_wide w t ts long all zero x e = ap length (sym (same_Some t x e)) ∙ long

@@ -21,8 +21,8 @@ use Rattle.adf_model.specs.Calls.{Group, tests_at_entry, resolve, group_of, file
 use Rattle.adf_model.specs.OneFile.{StandsIn}
 use Rattle.adf_model.specs.Steps.{IsLaidOut}
 use Rattle.adf_model.proofs.Basics.{not_true, not_false, or_none, equal, not_there, same_Some, same_Ok, passed, found, done}
-use Rattle.adf_model.proofs.GroupKeeps.{followed_live, resolve_reaches, reached_in_tree, group_step_keeps, one_step}
-use Rattle.adf_model.proofs.OneFileLaws.{in_its_file}
+use Rattle.adf_model.proofs.GroupKeeps.{followed_live, resolve_reaches, reached_in_tree, group_step_keeps, one_step, followed_in}
+use Rattle.adf_model.proofs.OneFileLaws.{in_its_file, opened_now}
 use Rattle.adf_model.proofs.LayoutLemmas.{end_of_open}
 use Rattle.adf_model.specs.FileGroup.{done_by}
 use Rattle.tree_laws.specs.Groups.{tree_left, group_need, AreDone, place_plans}
@@ -33,32 +33,6 @@ use Rattle.tree_laws.proofs.Groups.NeedsOfGroups.{group_needs_bound}
 use Rattle.tree_laws.proofs.Groups.PartsMany.{parts_are_many}
 use Rattle.tree_laws.proofs.Edits.Plans.{plans_others}
 use Rattle.tree_laws.proofs.Edits.PlanNew.{plans_create}
-
-opened_now : (files : Files) (number : ℕ) (opened next : Open) → open_at files number ≡ Some opened → open_at (with_slot files number (Live next)) number ≡ Some next
-opened_now [] number opened next e = absurd (not_there opened e)
-opened_now (file ∷ files) zero opened next e = refl
-opened_now (file ∷ files) (suc number) opened next e = opened_now files number opened next e
-
--- the followed node of an edit in one file is in that file
-followed_in : (edit : Edit) (number : ℕ) → list_any (λ (node : NodeId). not (node.file == number)) (named_nodes edit) ≡ false → (node : NodeId) → followed edit ≡ Some node → node.file ≡ number
-followed_in edit number e node f = by_edit edit e f
-  where
-    first : (n : NodeId) (b : Bool) → (not (n.file == number) || b) ≡ false → n.file ≡ number
-    first n b e = equal n.file number (not_false _ (or_none (not (n.file == number)) b e).0)
-
-    at : (n : NodeId) → ◌≡◌ {A = Option NodeId} (Some n) (Some node) → n.file ≡ number → node.file ≡ number
-    at n e here = sym (ap (λ (m : NodeId). m.file) (same_Some n node e)) ∙ here
-
-    by_edit : (edit : Edit) → list_any (λ (n : NodeId). not (n.file == number)) (named_nodes edit) ≡ false → followed edit ≡ Some node → node.file ≡ number
-    by_edit (Create n wanted label) e f = at n f (first n _ e)
-    by_edit (Delete n) e f = absurd (not_there node f)
-    by_edit (Rename n wanted) e f = absurd (not_there node f)
-    by_edit (Move n to) e f = at to f (first to _ (or_none (not (n.file == number)) _ e).1)
-    by_edit (SetLabel n label) e f = at n f (first n _ e)
-    by_edit (SetDims n shape) e f = at n f (first n _ e)
-    by_edit (PutAll n given) e f = at n f (first n _ e)
-    by_edit (PutPart n selection given) e f = at n f (first n _ e)
-    by_edit (Link n wanted file path) e f = at n f (first n _ e)
 
 -- ---- a group as it goes on
 
@@ -150,7 +124,7 @@ done_as_many files edits group number opened here stand no_link through = done_a
 
 -- ---- room
 
-refused : (limit end most : ℕ) (full : LimitReached) (r : Result Placement LimitReached) → r ≡ Err full → Grows limit end most r → limit * 4096 < end + 1 + most
+pub refused : (limit end most : ℕ) (full : LimitReached) (r : Result Placement LimitReached) → r ≡ Err full → Grows limit end most r → limit * 4096 < end + 1 + most
 refused limit end most full r e g = subst (Grows limit end most) e g
 
 pub room_is_needed : RoomIsNeeded

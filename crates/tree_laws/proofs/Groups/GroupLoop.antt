@@ -22,6 +22,8 @@ use Rattle.tree_laws.proofs.Groups.GroupsGrow.{group_grows, group_is_done, done_
 use Rattle.tree_laws.proofs.Groups.GroupLeft.{group_keeps_format, nothing_leaves, one_more_leaves}
 use Rattle.tree_laws.proofs.Groups.NeedsOfGroups.{group_needs_bound}
 use Rattle.tree_laws.proofs.Leaving.TailsKept.{tail_stays, one_more_tail}
+use Rattle.adf_model.proofs.EditsKeep.{one_step}
+use Rattle.tree_laws.proofs.Groups.FileGroups.{refused}
 
 pub group_begins : GroupBegins
 group_begins limit writable tree p image = record { made = refl; placed = refl; leaves = nothing_leaves tree.wide p image; tail = tail_stays p.heap.end image }
@@ -91,9 +93,6 @@ group_goes_on limit writable edits i edit tree p work after q r a b c there g e 
 pub group_pays : GroupPays
 group_pays limit writable edits i edit tree p work after q there made placed step = paid_more writable edits i edit tree work after there made step limit p q placed
 
-refused : (limit end most : ℕ) (full : LimitReached) (r : Result Placement LimitReached) → r ≡ Err full → Grows limit end most r → limit * 4096 < end + 1 + most
-refused limit end most full r e g = subst (Grows limit end most) e g
-
 pub group_is_full : GroupIsFull
 group_is_full limit writable edits i edit tree p work after q full is many there made placed step over =
     let now = placed_more writable edits i edit tree work after there made step limit p q placed ∙ over in
@@ -104,10 +103,6 @@ group_is_full limit writable edits i edit tree p work after q full is many there
     )
 
 -- ---- a group that is refused
-
-one_step : (r : Result Tree AdfError) (at : ℕ) (next : Tree → Result Work EditError) (work : Work) → at_edit at r next ≡ Ok work → (tree : Tree) × (r ≡ Ok tree) × (next tree ≡ Ok work)
-one_step (Ok tree) at next work e = (tree, refl, e)
-one_step (Err error) at next work e = absurd (not_Err e)
 
 abbrev work_with : Work → Edit → Tree → Work
 work_with work edit after = record { tree = after; created = work.created ++ created_by work.tree edit }

@@ -26,14 +26,13 @@ use Rattle.adf_model.proofs.Basics.{not_false, or_none}
 use Rattle.tree_laws.specs.Plans.{end_of_plan, plan_edit}
 use Rattle.adf_model.specs.FileGroup.{done_then, done_by}
 use Rattle.tree_laws.specs.Groups.{tree_left, placement_left, group_need, AreDone, place_plans, GroupGrows, GroupIsDone, DoneGrow, FirstsGrow, TreeGrows, PlacementGrows, PlansGrow, PlacementIsLeft, TouchedGrow, ShapedGrow, CostGrows, NeedGrows, AreDoneGrow}
+use Rattle.adf_model.proofs.EditsKeep.{one_step, at_followed}
+use Rattle.adf_model.proofs.PlacingLemmas.{same_further, further}
 
 -- ---- an edit of one file that is done is one of nodes that are reached
 
 first_live : (a b : Bool) → (not a || b) ≡ false → a ≡ true
 first_live a b e = not_false a (or_none (not a) b e).0
-
-at_followed : (tree : Tree) (at node : NodeId) → ◌≡◌ {A = Option NodeId} (Some at) (Some node) → is_live tree at.serial ≡ true → IsSome (node_at tree node.serial)
-at_followed tree at node e live = subst (λ (n : NodeId). IsSome (node_at tree n.serial)) (same_Some at node e) live
 
 followed_live : (tree : Tree) (edit : Edit) → list_any (λ (node : NodeId). not (is_live tree node.serial)) (named_nodes edit) ≡ false → (node : NodeId) → followed edit ≡ Some node → IsSome (node_at tree node.serial)
 followed_live tree (Create at wanted label) e node f = at_followed tree at node f (first_live _ _ e)
@@ -81,10 +80,6 @@ group_grows writable tree edits edit = grows_from writable 0 (length edits) (rec
     plain : (n : ℕ) → n ≡ 0 + n
     plain n = omega arith
 
-one_step : (r : Result Tree AdfError) (at : ℕ) (next : Tree → Result Work EditError) (work : Work) → at_edit at r next ≡ Ok work → (tree : Tree) × (r ≡ Ok tree) × (next tree ≡ Ok work)
-one_step (Ok tree) at next work e = (tree, refl, e)
-one_step (Err error) at next work e = absurd (not_Err e)
-
 pub done_with : (writable : Bool) (tree after : Tree) (edit : Edit) (edits : List Edit) → file_step writable tree edit ≡ Ok after → done_by writable tree (edit ∷ edits) ≡ (edit, after) ∷ done_by writable after edits
 done_with writable tree after edit edits e = ap (λ (r : Result Tree AdfError). done_then r (λ (after : Tree). (edit, after) ∷ done_by writable after edits)) e
 
@@ -128,14 +123,6 @@ tree_grows tree (x ∷ done) e = tree_grows x.1 done e
 nothing_more : (r : Result Placement LimitReached) → (r >>= λ (q : Placement). Ok q) ≡ r
 nothing_more (Ok p) = refl
 nothing_more (Err full) = refl
-
-further : (r : Result Placement LimitReached) (f g : Placement → Result Placement LimitReached) → ((r >>= f) >>= g) ≡ (r >>= λ (q : Placement). f q >>= g)
-further (Ok p) f g = refl
-further (Err full) f g = refl
-
-same_further : (r : Result Placement LimitReached) (f g : Placement → Result Placement LimitReached) → ((p : Placement) → f p ≡ g p) → (r >>= f) ≡ (r >>= g)
-same_further (Ok p) f g same = same p
-same_further (Err full) f g same = refl
 
 pub placement_grows : PlacementGrows
 placement_grows limit tree p [] e = nothing_more (place_edit limit tree e.1 (placed_as e.0) p)

@@ -7,24 +7,12 @@ use Rattle.adf_format.specs.Fields.{field}
 use Rattle.adf_format.specs.Tiles.{cover, end_of, is_free, is_filler, holds_byte}
 use Rattle.adf_format.specs.Parts.{IsFiller, SpellsFreeTable, SpellsFree}
 use Rattle.adf_format.specs.LaysOut.{ThreadsFreeChunks, IsThreaded, count_of, first_place, last_place}
-use Rattle.adf_format.proofs.BehindEnd.{counts_itself}
+use Rattle.adf_format.proofs.BehindEnd.{counts_itself, count_append, counts_more}
 use Rattle.adf_format.proofs.FrameLaws.{field_kept}
 use Rattle.adf_model.proofs.PartsApart.{range_in}
 use Rattle.adf_model.proofs.Basics.{not_there, same_Some}
 
 -- ---- what lies in the gaps
-
-pub count_append : (place n : ℕ) (xs ys : List Extent) → count_of place n (xs ++ ys) ≡ count_of place n xs + count_of place n ys
-count_append place n [] ys = omega arith
-count_append place n (x ∷ xs) ys =
-    let here = cond ((x.place == place) && (x.length == n)) 1 0 in
-    ap (λ k. here + k) (count_append place n xs ys) ∙ sym (add_assoc here (count_of place n xs) (count_of place n ys))
-
-counts_more : (e : Extent) (es : List Extent) (place n : ℕ) → 0 < count_of place n es → 0 < count_of place n (e ∷ es)
-counts_more e es place n some = plain (cond ((e.place == place) && (e.length == n)) 1 0) (count_of place n es) some
-  where
-    plain : (a b : ℕ) → 0 < b → 0 < a + b
-    plain a b h = omega (arith, h)
 
 -- the bytes of a free chunk that is counted among gaps are theirs
 counted_covered : (gaps : List Extent) (place n b : ℕ) → 0 < count_of place n (filter is_free gaps) → place ≤ b → b < place + n → 0 < cover gaps b

@@ -25,7 +25,7 @@ use Rattle.tree_laws.specs.Gifts.{TakenInAnyOrder, Gives, GiftsEnd, DeletedAreTa
 use Rattle.tree_laws.proofs.Holding.Steps.{once}
 use Rattle.tree_laws.proofs.Holding.HeapCalls.{gave}
 use Rattle.tree_laws.proofs.Deletes.NodesLeft.{nodes_left}
-use Rattle.tree_laws.proofs.Tables.TableReplaced.{few_dims}
+use Rattle.tree_laws.proofs.Tables.TableReplaced.{few_dims, node_too, some_at}
 use Rattle.tree_laws.proofs.Deletes.DeletedTree.{after_is, deleted_in_its_tree, deleted_above_it}
 
 head_byte : (b : ℕ) → b < 266 → 0 < cover head_extents b
@@ -103,18 +103,6 @@ long_left wide k gone (x ∷ xs) h =
     one false (Some ms) h = h ms refl
 
 -- ---- a deletion
-
-some_at : {A : Type 0} (xs : List (Option A)) (k : ℕ) → get_or (map is_some xs) k false ≡ is_some (get_or xs k None)
-some_at [] k = refl
-some_at (x ∷ xs) zero = refl
-some_at (x ∷ xs) (suc k) = some_at xs k
-
-node_too : (tree : Tree) (p : Placement) (s : ℕ) (from : NodeParts) → map is_some p.parts ≡ map is_some tree.nodes → parts_of p s ≡ Some from → (node : Node) × (node_at tree s ≡ Some node)
-node_too tree p s from same e = there (node_at tree s) (sym (some_at tree.nodes s) ∙ ap (λ xs. get_or xs s false) (sym same) ∙ some_at p.parts s ∙ ap is_some e)
-  where
-    there : (o : Option Node) → is_some o ≡ true → (node : Node) × (o ≡ Some node)
-    there None e = absurd (not_true e)
-    there (Some node) e = (node, refl)
 
 -- a deletion gives the parts of the nodes within the subtree
 goes : (tree after : Tree) (p : Placement) (node : NodeId) → IsTree tree → map is_some p.parts ≡ map is_some tree.nodes → apply tree (Edit.Delete node) ≡ Ok after → (k : ℕ) (ms : NodeParts) → parts_of p k ≡ Some ms → is_within tree node.serial k ≡ not (is_live after k)

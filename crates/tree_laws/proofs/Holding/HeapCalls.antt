@@ -25,11 +25,7 @@ use Rattle.adf_format.specs.HeapBytes.{HoldsFillers, MovesEnd, KeepsFillers}
 use Rattle.tree_laws.specs.Holding.{Holds, ChangesIn}
 use Rattle.tree_laws.proofs.Holding.Steps.{within, once}
 use Rattle.tree_laws.proofs.Holding.HeapMoves.{moved}
-
-z_at : (n place b : ℕ) (image : List ℕ) → IsFiller (field image place n) → place ≤ b → b < place + n → b < length image → slice_get image b ≡ Some 122
-z_at n place b image f low high inside =
-    sym (get_field image place n (b - place) b (omega (arith, low, high)) (omega (arith, low)))
-    ∙ ap (λ xs. slice_get xs (b - place)) f ∙ get_replicate (length (field image place n)) (b - place) 122 (let e = length-field image place n in omega (arith, e, low, high, inside))
+use Rattle.adf_model.proofs.CreatedParts.{z_at}
 
 -- a byte that stands there is the one that is read
 byte_there : (xs : List ℕ) (b v : ℕ) → slice_get xs b ≡ Some v → get_or xs b 0 ≡ v

@@ -14,7 +14,7 @@ use Rattle.adf_format.specs.Tiles.{cover, end_of, is_filler, is_free, holds_byte
 use Rattle.adf_format.specs.Parts.{SpellsHeader, SpellsFree, IsFiller}
 use Rattle.adf_format.specs.Placement.{Placement, NodeParts, parts_of, node_extents, live_extents, head_extents, all_extents}
 use Rattle.adf_format.specs.LaysOut.{AreGapsInOrder, ThreadsFreeChunks, IsThreaded, count_of, first_place}
-use Rattle.adf_format.proofs.BehindEnd.{long_node, counts_itself}
+use Rattle.adf_format.proofs.BehindEnd.{long_node, counts_itself, count_append}
 use Rattle.adf_format.proofs.LayoutLaws.{one_of}
 use Rattle.adf_format.proofs.FieldLaws.{length-field}
 use Rattle.adf_format.proofs.FrameLaws.{field_kept, field_of_first, holds_kept}
@@ -22,7 +22,6 @@ use Rattle.adf_model.proofs.PartsApart.{range_in, all_apart, cover_all}
 use Rattle.adf_model.proofs.FilledGaps.{filler_of}
 use Rattle.adf_model.proofs.ManyWrites.{less_or}
 use Rattle.tree_laws.specs.Holding.{Holds, MovesHeap}
-use Rattle.tree_laws.proofs.Holding.Frames.{count_append}
 use Rattle.tree_laws.proofs.Holding.Steps.{within, keeps_but}
 
 -- ---- the file header, where its end pointer alone changes

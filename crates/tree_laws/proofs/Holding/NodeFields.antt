@@ -6,12 +6,8 @@ use Rattle.adf_format.specs.Fields.{field, text_field}
 use Rattle.adf_format.specs.Parts.{NodeFields, SpellsNode, node_length, chunk_count_at, dimension_digits}
 use Rattle.adf_format.specs.Changes.{Writes}
 use Rattle.adf_format.proofs.FieldLaws.{field_beside, length-field, field_around}
-use Rattle.adf_model.proofs.CreatedParts.{counted, pointer_same, padded_long}
+use Rattle.adf_model.proofs.CreatedParts.{counted, pointer_same, padded_long, room}
 use Rattle.adf_format.proofs.HexLaws.{hex_value-hex_text, length-hex_text}
-
-room : (w : Bool) (i : ℕ) → i < 12 → 130 + dimension_digits w * i + dimension_digits w ≤ node_length w
-room false i lt = omega (arith, lt)
-room true i lt = omega (arith, lt)
 
 least : (w : Bool) → 246 ≤ node_length w
 least false = omega arith

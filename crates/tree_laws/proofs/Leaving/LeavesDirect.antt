@@ -29,9 +29,10 @@ use Rattle.tree_laws.specs.DataSwitch.{Switches, with_data}
 use Rattle.tree_laws.specs.LeavingSteps.{SparesAll, LeavesBySparing, TakeLeaves, TakenLeaves, GiftsLeave, DataLeaves}
 use Rattle.tree_laws.proofs.Holding.Steps.{within, once}
 use Rattle.tree_laws.proofs.Edits.LabelSet.{set_here, set_there}
-use Rattle.tree_laws.proofs.Leaving.LeavingLaws.{node_of, of_node, contains_cover, steps_leave}
+use Rattle.tree_laws.proofs.Leaving.LeavingLaws.{contains_cover, steps_leave, head_byte}
 use Rattle.tree_laws.proofs.Holding.GiftsFolded.{given_one}
 use Rattle.tree_laws.proofs.Data.DataSwitched.{own_parts}
+use Rattle.adf_model.proofs.CreateStays.{node_of, of_node}
 
 -- ---- bytes of extents
 
@@ -47,12 +48,6 @@ byte_in e b some = elim (leb_tells e.place b) [
 -- a byte of an extent of a list is one of the list
 pub covers : (xs : List Extent) (e : Extent) (b : ℕ) → Contains xs e → 0 < cover (e ∷ []) b → 0 < cover xs b
 covers xs e b c some = let i = byte_in e b some in contains_cover xs e b c i.0 i.1
-
-pub head_byte : (b : ℕ) → b ≤ 265 → 0 < cover head_extents b
-head_byte b le = elim (leb_tells 186 b) [
-  | inl late ↦ (let held = range_in 186 80 b late.1 (omega (arith, le)) in omega (arith, held))
-  | inr early ↦ (let held = range_in 0 186 b (omega arith) (let e = early.1 in omega (arith, e)) in omega (arith, held))
-]
 
 fields_in_head : (b : ℕ) → cover heap_fields b ≤ cover head_extents b
 fields_in_head b = let w = range_within 0 186 146 12 b (omega arith) (omega arith) in omega (arith, w)

@@ -20,30 +20,7 @@ use Rattle.adf_model.proofs.PartsApart.{range_in, cover_all}
 use Rattle.tree_laws.specs.Holding.{Holds, Rebuilds, MovesHeap, ChangesIn, MeetsNothing}
 use Rattle.tree_laws.specs.Leaving.{Leaves, Spares}
 use Rattle.tree_laws.proofs.Holding.Steps.{within}
-
-pub none_in : {A : Type 0} (a : A) → Contains [] a → ⊥
-none_in a h = none h.0 h.1
-  where
-    none : (k : ℕ) → k < 0 → ⊥
-    none k lt = omega (arith, lt)
-
--- an extent of the parts is one of some node's
-pub node_of : (wide : Bool) (xs : List (Option NodeParts)) (e : Extent) → Contains (flat_map (extents_of wide) xs) e → (k : ℕ) × (ms : NodeParts) × (get_or xs k None ≡ Some ms) × Contains (node_extents wide ms) e
-node_of wide [] e h = absurd (none_in e h)
-node_of wide (x ∷ xs) e h = by_first x (Contains-append_cases (extents_of wide x) (flat_map (extents_of wide) xs) e h) (node_of wide xs e)
-  where
-    by_first : (x : Option NodeParts) → Contains (extents_of wide x) e ⊎ Contains (flat_map (extents_of wide) xs) e
-        → (Contains (flat_map (extents_of wide) xs) e → (k : ℕ) × (ms : NodeParts) × (get_or xs k None ≡ Some ms) × Contains (node_extents wide ms) e)
-        → (k : ℕ) × (ms : NodeParts) × (get_or (x ∷ xs) k None ≡ Some ms) × Contains (node_extents wide ms) e
-    by_first None (inl c) later = absurd (none_in e c)
-    by_first (Some ms) (inl c) later = (zero, ms, refl, c)
-    by_first x (inr c) later = let r = later c in (suc r.0, r.1, r.2, r.3)
-
--- and an extent of a node is one of the parts
-pub of_node : (wide : Bool) (xs : List (Option NodeParts)) (k : ℕ) (ms : NodeParts) (e : Extent) → get_or xs k None ≡ Some ms → Contains (node_extents wide ms) e → Contains (flat_map (extents_of wide) xs) e
-of_node wide [] k ms e at c = absurd (not_there ms at)
-of_node wide (x ∷ xs) zero ms e at c = Contains-append_left (extents_of wide x) (flat_map (extents_of wide) xs) e (subst (λ (o : Option NodeParts). Contains (extents_of wide o) e) (sym at) c)
-of_node wide (x ∷ xs) (suc k) ms e at c = Contains-append_right (extents_of wide x) (flat_map (extents_of wide) xs) e (of_node wide xs k ms e at c)
+use Rattle.adf_model.proofs.CreateStays.{node_of, of_node, none_in}
 
 -- the bytes of an extent are covered
 pub contains_cover : (xs : List Extent) (e : Extent) (b : ℕ) → Contains xs e → e.place ≤ b → b < end_of e → 0 < cover xs b

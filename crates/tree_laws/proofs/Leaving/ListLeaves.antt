@@ -39,10 +39,14 @@ use Rattle.tree_laws.specs.LeavingSteps.{DeletionLeaves, JoinLeaves, TableJoinLe
 use Rattle.tree_laws.proofs.Holding.Steps.{once}
 use Rattle.tree_laws.proofs.Edits.LabelSet.{written_in, set_here, set_there}
 use Rattle.tree_laws.proofs.Holding.OwnRanges.{two_written}
-use Rattle.tree_laws.proofs.Leaving.LeavingLaws.{of_node}
 use Rattle.tree_laws.proofs.Deletes.DeletedTree.{deleted_in_its_tree}
 use Rattle.tree_laws.proofs.Data.DataSwitched.{own_parts}
-use Rattle.tree_laws.proofs.Leaving.LeavesDirect.{covers, head_byte, dims_byte, own_cases, data_in, sparing_leaves}
+use Rattle.tree_laws.proofs.Leaving.LeavesDirect.{covers, dims_byte, own_cases, data_in, sparing_leaves}
+use Rattle.adf_model.proofs.MoveKeeps.{among_live}
+use Rattle.adf_model.proofs.CreateStays.{of_node}
+use Rattle.tree_laws.proofs.Leaving.LeavingLaws.{head_byte}
+use Rattle.tree_laws.proofs.Edits.EditsPlaced.{front_get}
+use Rattle.tree_laws.proofs.Tables.TableReplaced.{some_at}
 
 least : (wide : Bool) → 246 ≤ node_length wide
 least false = omega arith
@@ -159,29 +163,6 @@ pub length-erased : (k : ℕ) (gone : ℕ → Bool) (xs : List (Option NodeParts
 length-erased k gone [] = refl
 length-erased k gone (x ∷ xs) = ap suc (length-erased (suc k) gone xs)
 
-pub among_live : (k : ℕ) (test : ℕ → Bool) (nodes : List (Option Node)) (q : ℕ) → IsSome (get_or nodes q None) → test (k + q) ≡ true → IsAmong (live_from k test nodes) (k + q)
-among_live k test [] q live t = absurd (not_true live)
-among_live k test (None ∷ nodes) zero live t = absurd (not_true live)
-among_live k test (None ∷ nodes) (suc q) live t = subst (λ i. IsAmong (live_from (suc k) test nodes) i) (same k q) (among_live (suc k) test nodes q live (ap test (same k q) ∙ t))
-  where
-    same : (k q : ℕ) → suc k + q ≡ k + suc q
-    same k q = omega arith
-among_live k test (Some node ∷ nodes) zero live t =
-    let here : test k ≡ true = ap test (same k) ∙ t in
-    rw (here) (subst (λ i. IsAmong (k ∷ live_from (suc k) test nodes) i) (same k) (among_head k (live_from (suc k) test nodes)))
-  where
-    same : (k : ℕ) → k ≡ k + 0
-    same k = omega arith
-among_live k test (Some node ∷ nodes) (suc q) live t =
-    either (test k) (subst (λ i. IsAmong (live_from (suc k) test nodes) i) (same k q) (among_live (suc k) test nodes q live (ap test (same k q) ∙ t)))
-  where
-    same : (k q : ℕ) → suc k + q ≡ k + suc q
-    same k q = omega arith
-
-    either : (b : Bool) → IsAmong (live_from (suc k) test nodes) (k + suc q) → IsAmong (if b then k ∷ live_from (suc k) test nodes else live_from (suc k) test nodes) (k + suc q)
-    either true h = or_right (k == k + suc q) (is_among (live_from (suc k) test nodes) (k + suc q)) h
-    either false h = h
-
 pub contains_flat : (f : ℕ → List Extent) (xs : List ℕ) (k : ℕ) (e : Extent) → IsAmong xs k → Contains (f k) e → Contains (flat_map f xs) e
 contains_flat f [] k e h c = absurd (not_true h)
 contains_flat f (x ∷ xs) k e h c = elim (eqb_tells x k) [
@@ -192,11 +173,6 @@ contains_flat f (x ∷ xs) k e h c = elim (eqb_tells x k) [
     later : (a b : Bool) → a ≡ false → (a || b) ≡ true → b ≡ true
     later true b p q = cc
     later false b p q = q
-
-some_at : {A : Type 0} (xs : List (Option A)) (k : ℕ) → get_or (map is_some xs) k false ≡ is_some (get_or xs k None)
-some_at [] k = refl
-some_at (x ∷ xs) zero = refl
-some_at (x ∷ xs) (suc k) = some_at xs k
 
 pub live_too : (tree : Tree) (p : Placement) (s : ℕ) (from : NodeParts) → map is_some p.parts ≡ map is_some tree.nodes → parts_of p s ≡ Some from → is_live tree s ≡ true
 live_too tree p s from same e = sym (some_at tree.nodes s) ∙ ap (λ xs. get_or xs s false) (sym same) ∙ some_at p.parts s ∙ ap is_some e
@@ -268,11 +244,6 @@ deletion_leaves old middle new tree after p taken node par i at t h e up listed 
     (deletion_left old middle new tree after p taken node par i at t h e up listed placed has w)
 
 -- ---- a node joins
-
-front_get : (xs : List (Option NodeParts)) (y : Option NodeParts) (k : ℕ) → k < length xs → get_or (xs ++ y ∷ []) k None ≡ get_or xs k None
-front_get [] y k lt = absurd (omega (arith, lt))
-front_get (x ∷ xs) y zero lt = refl
-front_get (x ∷ xs) y (suc k) lt = front_get xs y k (omega (arith, lt))
 
 pub join_leaves : JoinLeaves
 join_leaves old middle new tree p taken s child parent name from parts t h here stands has free short v w =

@@ -20,7 +20,8 @@ use Rattle.tree_laws.specs.Holding.{Holds, ChangesIn, MeetsNothing}
 use Rattle.tree_laws.specs.Leaving.{Leaves}
 use Rattle.tree_laws.proofs.Holding.Steps.{within, once}
 use Rattle.tree_laws.proofs.Holding.OwnRanges.{data_extents}
-use Rattle.tree_laws.proofs.Leaving.LeavingLaws.{none_in, node_of, contains_cover, live_kept, head_byte, header_byte}
+use Rattle.tree_laws.proofs.Leaving.LeavingLaws.{contains_cover, live_kept, head_byte, header_byte}
+use Rattle.adf_model.proofs.CreateStays.{node_of, none_in}
 
 -- the header and the table of a node
 abbrev pub list_extents : Bool → NodeParts → List Extent

@@ -22,10 +22,11 @@ use Rattle.tree_laws.specs.Moving.{LongerLeaves, with_longer}
 use Rattle.adf_format.specs.HeapRule.{parts_or_none}
 use Rattle.tree_laws.proofs.Holding.Steps.{within, once}
 use Rattle.tree_laws.proofs.Edits.LabelSet.{set_here, set_there, written_in}
-use Rattle.tree_laws.proofs.Leaving.LeavingLaws.{node_of, of_node, contains_cover, live_kept, head_byte, header_byte, leaves_more}
+use Rattle.tree_laws.proofs.Leaving.LeavingLaws.{contains_cover, live_kept, head_byte, header_byte, leaves_more}
 use Rattle.tree_laws.proofs.Leaving.ListsLeave.{list_extents, list_or_data, list_split, data_in_node, count_or_dims}
 use Rattle.tree_laws.proofs.Moves.MovedNodes.{is_or_not}
 use Rattle.tree_laws.proofs.Holding.OwnRanges.{least, data_extents}
+use Rattle.adf_model.proofs.CreateStays.{node_of, of_node}
 
 module _ (old new text : List ℕ) (tree : Tree) (p : Placement) (taken : List Extent) (serial table entries : ℕ) (from : NodeParts) (h : Holds old tree p taken) (placed : parts_of p serial ≡ Some from) (w : Writes (from.header + 68) text old new) (long : length text ≡ 28) where
   abbrev q : Placement

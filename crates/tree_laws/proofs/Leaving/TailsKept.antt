@@ -15,6 +15,7 @@ use Rattle.tree_laws.specs.Groups.{tree_left}
 use Rattle.tree_laws.specs.Tails.{KeepsTail, TailStays, TailsGoOn, WrittenTail, TakenTail, GivenTail, EndsRise, OneMoreTail}
 use Rattle.tree_laws.proofs.Holding.Steps.{split}
 use Rattle.tree_laws.proofs.Leaving.PlacedEnds.{end_rises}
+use Rattle.tree_laws.proofs.Leaving.LeavingLaws.{head_byte}
 
 pub tail_stays : TailStays
 tail_stays end image = record { longer = le_refl (length image); tail = λ b past lt. refl }
@@ -44,12 +45,6 @@ fields_in_head : (b : ℕ) → 266 ≤ b → cover heap_fields b ≡ 0
 fields_in_head b le =
     let one = range_out 146 12 b (inr (omega (arith, le))) in
     let two = range_out 186 80 b (inr (omega (arith, le))) in omega (arith, one, two)
-
-head_byte : (b : ℕ) → b ≤ 265 → 0 < cover head_extents b
-head_byte b le = elim (leb_tells 186 b) [
-  | inl late ↦ (let held = range_in 186 80 b late.1 (omega (arith, le)) in omega (arith, held))
-  | inr early ↦ (let held = range_in 0 186 b (omega arith) (let e = early.1 in omega (arith, e)) in omega (arith, held))
-]
 
 -- the head lies up to the end
 head_before : (image : List ℕ) (tree : Tree) (p : Placement) (taken : List Extent) → Holds image tree p taken → (b : ℕ) → p.heap.end < b → 266 ≤ b

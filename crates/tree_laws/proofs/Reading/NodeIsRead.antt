@@ -22,6 +22,7 @@ use Rattle.layout_laws.proofs.NodesStand.{entry_read}
 use Rattle.layout_laws.proofs.Rows.{le_of, of_equal, points_to}
 use Rattle.tree_laws.specs.Reading.{serial_from, node_in, ArePlaces}
 use Rattle.tree_laws.proofs.Reading.PlacesFound.{places_find}
+use Rattle.layout_laws.proofs.OneLayout.{few_dims_of}
 
 -- what a function gives on the numbers of a list's places is the list
 listed : (f : ℕ → ℕ) (a : ℕ) (cs : List ℕ) → ((i c : ℕ) → slice_get cs i ≡ Some c → f (a + i) ≡ c) → map f (range_with_len a (length cs)) ≡ cs
@@ -33,9 +34,6 @@ listed f a (c ∷ cs) h = ap (λ d. d ∷ map f (range_with_len (a + 1) (length 
 
     shift : (a i : ℕ) → a + 1 + i ≡ a + suc i
     shift a i = omega arith
-
-few_dims_of : (wide : Bool) (node : Node) → IsNode wide node → length node.dims ≤ 12
-few_dims_of wide node is = le_of (length node.dims) 12 (and_parts _ _ (and_parts _ _ is.shaped).0).1
 
 module _ (image : List ℕ) (tree : Tree) (p : Placement) (l : LaysOut image tree p) (places : List (Option ℕ)) (are : ArePlaces p places) where
   -- the data of the node at a place, as the image has them

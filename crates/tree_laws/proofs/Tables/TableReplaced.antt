@@ -377,7 +377,7 @@ few_dims tree s node is e =
     at_most : (m n : ℕ) → nat_le m n ≡ true → m ≤ n
     at_most m n e = grind (arith, nat_tests)
 
-some_at : {A : Type 0} (xs : List (Option A)) (k : ℕ) → get_or (map is_some xs) k false ≡ is_some (get_or xs k None)
+pub some_at : {A : Type 0} (xs : List (Option A)) (k : ℕ) → get_or (map is_some xs) k false ≡ is_some (get_or xs k None)
 some_at [] k = refl
 some_at (x ∷ xs) zero = refl
 some_at (x ∷ xs) (suc k) = some_at xs k

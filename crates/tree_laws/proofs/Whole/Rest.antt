@@ -27,9 +27,9 @@ use Rattle.tree_laws.specs.MidEdit.{room}
 use Rattle.tree_laws.specs.Spared.{IsOutside, SparesRest, IsSpared, AreSpared, KeepsPlaces, RestIsLeft}
 use Rattle.tree_laws.proofs.Holding.Steps.{from_layout, within, once}
 use Rattle.std.proofs.lemmas.List.Elements.{Contains-append_cases}
-use Rattle.adf_model.proofs.CreateStays.{none_in}
+use Rattle.adf_model.proofs.CreateStays.{none_in, node_of}
 use Rattle.tree_laws.proofs.Leaving.ListsLeave.{only_one}
-use Rattle.tree_laws.proofs.Leaving.LeavingLaws.{node_of, contains_cover, head_byte, header_byte}
+use Rattle.tree_laws.proofs.Leaving.LeavingLaws.{contains_cover, head_byte, header_byte}
 use Rattle.tree_laws.proofs.Whole.Mid.{in_old}
 
 -- two extents of a list that hold one byte are one, where none is covered twice
