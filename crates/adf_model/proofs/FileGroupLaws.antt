@@ -9,7 +9,8 @@ use Rattle.adf_model.specs.declared.tree.NodeId.{NodeId}
 use Rattle.adf_model.specs.Edits.{Work}
 use Rattle.adf_model.specs.Slots.{Open, Slot, Standing, Device}
 use Rattle.adf_model.specs.Slots.Slot.{Gone, Raw, Saved, Live}
-use Rattle.adf_model.specs.Steps.{Rose, OnlyRead, WriteFailed, IsMemoryOr}
+use Rattle.adf_model.specs.Steps.{OnlyRead, WriteFailed, IsMemoryOr}
+use Rattle.adf_model.specs.Counts.{Rose}
 use Rattle.adf_model.specs.FileGroup.{is_of_many_files, IsFileGroup, IsFileGroupRefusal, IsBrokenGroup, HasFileCause, RefusedAnyway, FileGroupAnyway}
 use Rattle.adf_model.proofs.Basics.{not_there, same_Ok}
 

@@ -14,7 +14,8 @@ use Rattle.adf_model.specs.Untouched.{KeepsRest, KeepsTail}
 use Rattle.adf_model.specs.Torn.{TornGroup}
 use Rattle.adf_model.specs.Slots.{Open, Slot, Standing, Device}
 use Rattle.adf_model.specs.Slots.Slot.{Gone, Raw, Saved, Live}
-use Rattle.adf_model.specs.Steps.{Rose, OnlyRead, NoneFell, WriteFailed, IsMemoryOr, is_foreign_to_edits, IsFileRefusal}
+use Rattle.adf_model.specs.Steps.{OnlyRead, NoneFell, WriteFailed, IsMemoryOr, is_foreign_to_edits, IsFileRefusal}
+use Rattle.adf_model.specs.Counts.{Rose}
 use Rattle.adf_model.specs.Causes.{IsIndex}
 
 -- ---- the edits that are done

@@ -8,7 +8,8 @@ ghost use Rattle.adf_model.specs.declared.tree.Edit.{Edit};
 ghost use Rattle.adf_model.specs.declared.tree.NodeId.{NodeId};
 ghost use Rattle.adf_model.specs.Slots.{Slot, Standing, Device, Open};
 ghost use Rattle.adf_model.specs.Slots.Slot.{Live};
-ghost use Rattle.adf_model.specs.Steps.{Rose, OnlyRead, WriteFailed};
+ghost use Rattle.adf_model.specs.Steps.{OnlyRead, WriteFailed};
+ghost use Rattle.adf_model.specs.Counts.{Rose};
 ghost use Rattle.adf_model.specs.FileGroup.{is_of_many_files, IsFileGroup, FileGroupAnyway};
 
 /// A group without edits is answered at once, on a broken file too; and a broken file refuses the first
