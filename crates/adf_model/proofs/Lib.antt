@@ -71,3 +71,4 @@ pub mod RunLaws
 pub mod FailedWrites
 pub mod AskLaws
 pub mod AsksThenEdits
+pub mod RuleNames

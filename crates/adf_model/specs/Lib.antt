@@ -16,6 +16,7 @@ pub mod Torn
 pub mod Steps
 pub mod Modes
 pub mod Causes
+pub mod NamedRules
 pub mod OneFile
 pub mod FileGroup
 pub mod Runs

@@ -14,8 +14,9 @@ ghost use Rattle.adf_model.specs.Edits.{file_tests_at_entry, file_step, named_no
 ghost use Rattle.adf_model.specs.Placing.{placed_as};
 ghost use Rattle.adf_model.specs.Slots.{Standing, Files, Devices, device_at, standings, slot_at, is_gone, names_there, number_of, entry_files};
 ghost use Rattle.adf_model.specs.Counts.{Rose};
-ghost use Rattle.adf_model.specs.Steps.{WriteFailed, Opening, close_tests, open_tests, IsEdit, IsFileRefusal, IsLineError, Opened, Closed, Discarded, Step, Misread};
-ghost use Rattle.adf_model.specs.Causes.{OpensStanding, HasOpenCause, standing_by, OpenedAnyway, MovesStanding, ClosedAnyway, DiscardedAnyway, GroupLeaves};
+ghost use Rattle.adf_model.specs.Steps.{WriteFailed, Opening, close_tests, open_tests, IsEdit, IsFileRefusal, IsLineError, Call, Opened, Closed, Discarded, Step, Misread};
+ghost use Rattle.adf_model.specs.Causes.{OpensStanding, HasOpenCause, standing_by, OpenedAnyway, MovesStanding, ClosedAnyway, DiscardedAnyway, GroupLeaves, Anyway};
+ghost use Rattle.adf_model.specs.NamedRules.{NamesRules};
 
 /// A done opening changes how its own file stands alone, a refused one changes none; and what may be
 /// answered over devices that tell is so in any case.
@@ -84,4 +85,9 @@ pub fn shelves_by_name()
     ensures count { (names : List (Option (List ℕ))) → length (entry_files names) ≡ length names }
     ensures found { (names : List (Option (List ℕ))) (name : List ℕ) (number : ℕ) → number_of (entry_files names) name ≡ Some number → slice_get names number ≡ Some (Some name) }
     ensures all { (names : List (Option (List ℕ))) (name : List ℕ) (number : ℕ) → slice_get names number ≡ Some (Some name) → number_of (entry_files names) name ≢ None }
+{}
+
+/// A refusal that names a rule of the layout names one that there is, whether devices tell or not.
+pub fn refusals_name_rules()
+    ensures { (files after : Files) (before now : Devices) (call : Call) → Anyway files before call now after → NamesRules call }
 {}

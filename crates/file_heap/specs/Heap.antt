@@ -3,7 +3,8 @@ use Rattle.std.specs.Prelude.{◌≡◌, ℕ, ◌+◌, ◌-◌, ◌*◌, ◌<◌
 use Rattle.std.specs.List.{AllByRecursion}
 use Rattle.std.specs.Global.{Vec}
 use Rattle.cg_io.specs.Blocks.{Both}
-use Rattle.cg_io.specs.Cause.{Rose}
+pub use Rattle.cg_io.specs.Answers.{IsRefusal, IsUntold}
+use Rattle.cg_io.specs.Answers.{OnlyReads}
 use Rattle.cg_io.specs.Device.{DeviceState}
 use Rattle.adf_format.specs.declared.types.Extent.{Extent}
 use Rattle.adf_format.specs.declared.types.ExtentKind.{ExtentKind}
@@ -66,19 +67,7 @@ pub record MayGive (place n : ℕ) (heap : Heap) : Type 0 where
   pub high : place + n ≤ heap.end + 1
   pub apart : MeetsNone place n heap.gaps
 
--- bytes that are not told
-abbrev pub IsUntold : Option (List ℕ) → Type 0
-IsUntold None = ⊤
-IsUntold (Some bytes) = ⊥
-
--- why a call was refused: want of memory, a failed read, or, under a condition, the layout of the bytes
-abbrev pub IsRefusal : Type 0 → ℕ → ℕ → AdfError → Type 0
-IsRefusal unread before now error.Memory = ⊤
-IsRefusal unread before now error.ReadFault = Rose before now
-IsRefusal unread before now (error.Layout rule place) = unread
-IsRefusal unread before now other = ⊥
-
--- the same, or that the limit is reached
+-- why a take is refused: as other calls over bytes, or the limit is reached
 abbrev pub IsTakeRefusal : Type 0 → ℕ → ℕ → AdfError → Type 0
 IsTakeRefusal unread before now (error.Full asked end) = ⊤
 IsTakeRefusal unread before now other = IsRefusal unread before now other
@@ -90,12 +79,8 @@ abbrev pub KeepsThreads : List ℕ → List ℕ → Type 0
 KeepsThreads old new = (gaps : List Extent) → AreApart gaps → ThreadsFreeChunks old gaps → ThreadsFreeChunks new gaps
 
 -- what calls of a space leave of the device below: its bytes and writes, and no count falls
-pub record Looks (old new : DeviceState) : Type 0 where
-  pub held : new.held ≡ old.held
-  pub lost : new.lost ≡ old.lost
-  pub writes : new.writes ≡ old.writes
-  pub reads : old.reads ≤ new.reads
-  pub faults : old.faults ≤ new.faults
+abbrev pub Looks : DeviceState → DeviceState → Type 0
+Looks old new = OnlyReads old new
 
 -- gaps became others, the lists thread their free chunks, and their fillers hold `z` where those before did
 pub record BecomeGaps (becomes old new : List Extent) (before after : Option (List ℕ)) : Type 0 where

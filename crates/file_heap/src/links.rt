@@ -6,6 +6,7 @@ ghost use Rattle.adf_format.specs.Pointer.{pointer_text};
 ghost use Rattle.adf_format.specs.Spelled.{pointer_to, IsInReach};
 ghost use Rattle.adf_format.specs.Changes.{Writes};
 ghost use Rattle.file_heap.specs.Links.{link_at, Follows, PointsNowhere, HasHead, range};
+ghost use Rattle.adf_format.specs.RuleNumbers.{IsRule};
 ghost use Rattle.file_heap.specs.Heap.{ChangesOnly, Looks, IsRefusal};
 
 use adf_model::AdfError;
@@ -88,7 +89,7 @@ pub(crate) fn write_link<S: Space>(
 
 // What stands in the free table or in a free chunk is no pointer.
 fn no_pointer(at: u64) -> AdfError
-    ensures { (rule : ℕ) × (result ≡ AdfError.Layout rule at) }
+    ensures { (rule : ℕ) × IsRule rule × (result ≡ AdfError.Layout rule at) }
 {
     AdfError::Layout {
         rule: if at < 266 { 10 } else { 29 },

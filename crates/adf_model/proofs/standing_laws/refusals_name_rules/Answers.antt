@@ -1,0 +1,5 @@
+use Rattle.adf_model.proofs.RuleNames.{rules_named}
+use Rattle.adf_model.proofs.standing_laws.refusals_name_rules.Goals as goal
+
+pub returns : goal.returns
+returns c = rules_named
