@@ -101,7 +101,7 @@ module _ (files : Files) (a b c : Devices) (asks : OnlyAsks files a b files) whe
   group_cause (Err refusal) h = error_cause refusal.error h
 
   anyway : (result : Result (List NodeId) EditError) (edits : List Edit) (after : Files) → ChangedAnyway files b edits result c after → ChangedAnyway files a edits result c after
-  anyway result edits after h = record { leaves = group_leaves result edits after h.leaves; names = h.names; entry = h.entry; cause = group_cause result h.cause }
+  anyway result edits after h = record { leaves = group_leaves result edits after h.leaves; names = h.names; entry = h.entry; cause = group_cause result h.cause; kind = h.kind }
 
   layouts : (after : Files) → KeepsLayouts files b c after → KeepsLayouts files a c after
   layouts after h =

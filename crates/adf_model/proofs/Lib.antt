@@ -72,3 +72,4 @@ pub mod FailedWrites
 pub mod AskLaws
 pub mod AsksThenEdits
 pub mod RuleNames
+pub mod EditCauses

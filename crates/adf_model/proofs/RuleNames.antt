@@ -1,9 +1,9 @@
 -- A refusal that names a rule names one of a layout.
-use Rattle.std.proofs.Common.{◌≡◌, ℕ, Bool, true, false, not, List, [], ◌∷◌}
-use Rattle.std.specs.Prelude.{Option, Some, None, Result, Ok, Err, IfSome}
+use Rattle.std.proofs.Common.{◌≡◌, ℕ, Bool, true, false, not, [], ◌∷◌}
+use Rattle.std.specs.Prelude.{Some, Ok, Err}
 use Rattle.adf_format.specs.RuleNumbers.{IsRule}
 use Rattle.adf_model.specs.declared.error.AdfError.{AdfError}
-use Rattle.adf_model.specs.declared.error.AdfError.TheVariants.{Memory, ReadFault, NoSuchFile, NotOpen, AlreadyOpen, Layout}
+use Rattle.adf_model.specs.declared.error.AdfError.TheVariants.{NoSuchFile, NotOpen, AlreadyOpen, Layout}
 use Rattle.adf_model.specs.declared.tree.Reply.{Reply}
 use Rattle.adf_model.specs.declared.tree.Query.{Query}
 use Rattle.adf_model.specs.Tests.{first_refusal}

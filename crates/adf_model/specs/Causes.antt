@@ -1,9 +1,10 @@
 -- What each call may answer and leave also where devices tell nothing: files, names, standings, counts and causes.
-use Rattle.std.specs.Prelude.{◌≡◌, ◌⊎◌, ℕ, ◌<◌, Bool, true, is_some, if◌then◌else◌, List, [], ◌∷◌, length, slice_get, slice_set, Option, Some, None, IfSome, Result, Ok, Err, IfOk, IfErr}
+use Rattle.std.specs.Prelude.{◌≡◌, ◌⊎◌, ℕ, ◌<◌, Bool, true, is_some, if◌then◌else◌, List, [], ◌∷◌, length, slice_get, slice_set, Option, Some, None, IfSome, Result, Ok, Err, IfOk, IfErr, ◌||◌, ◌&&◌}
 use Rattle.adf_model.specs.declared.error.AdfError.{AdfError}
-use Rattle.adf_model.specs.declared.error.AdfError.TheVariants.{Memory, ReadFault, WriteFault, NotOpen, NoSuchFile, NotEmpty, Layout}
+use Rattle.adf_model.specs.declared.error.AdfError.TheVariants.{Memory, ReadFault, WriteFault, NotOpen, NoSuchFile, ReadOnly, NoSuchNode, NotAChild, BadName, Duplicate, BadLabel, BadShape, NoData, BadRange, WrongLength, IntoItself, TooDeep, LinkMissing, LinkChain, BadLink, Layout, NotEmpty, TooLarge, TooManyChildren, Full, OtherFile}
 use Rattle.adf_model.specs.declared.error.EditError.{EditError}
 use Rattle.adf_model.specs.declared.tree.Edit.{Edit}
+use Rattle.adf_model.specs.declared.tree.Edit.TheVariants.{Create, Delete, Rename, Move, SetLabel, SetDims, PutAll, PutPart, Link}
 use Rattle.adf_model.specs.declared.tree.NodeId.{NodeId}
 use Rattle.adf_model.specs.declared.tree.Query.{Query}
 use Rattle.adf_model.specs.declared.tree.Reply.{Reply}
@@ -150,11 +151,76 @@ pub record EntersGroup {A : Type 0} (files : Files) (edits : List Edit) (result 
   pub refused : IfErr result (λ refusal. (edit : Edit) → slice_get edits refusal.at ≡ Some edit
       → EntersFiles {A = Unit} files (named_nodes edit) (is_some (followed edit)) (Err refusal.error))
 
+-- an error that any edit may be refused with; no failed write stands at an edit
+abbrev pub is_of_edits : AdfError → Bool
+is_of_edits Memory = true
+is_of_edits ReadFault = true
+is_of_edits AdfError.Broken = true
+is_of_edits NotOpen = true
+is_of_edits NoSuchFile = true
+is_of_edits ReadOnly = true
+is_of_edits NoSuchNode = true
+is_of_edits OtherFile = true
+is_of_edits (Layout rule place) = true
+is_of_edits error = false
+
+-- an error of links that lead nowhere
+abbrev pub is_of_links : AdfError → Bool
+is_of_links LinkMissing = true
+is_of_links LinkChain = true
+is_of_links error = false
+
+-- an error of what an edit of this kind is given, or of its room
+abbrev pub is_of_kind : Edit → AdfError → Bool
+is_of_kind (Create at wanted label) BadName = true
+is_of_kind (Create at wanted label) BadLabel = true
+is_of_kind (Create at wanted label) Duplicate = true
+is_of_kind (Create at wanted label) TooManyChildren = true
+is_of_kind (Create at wanted label) TooDeep = true
+is_of_kind (Create at wanted label) TooLarge = true
+is_of_kind (Create at wanted label) (Full asked end) = true
+is_of_kind (Delete node) NotAChild = true
+is_of_kind (Rename node wanted) NotAChild = true
+is_of_kind (Rename node wanted) BadName = true
+is_of_kind (Rename node wanted) Duplicate = true
+is_of_kind (Move node to) NotAChild = true
+is_of_kind (Move node to) IntoItself = true
+is_of_kind (Move node to) Duplicate = true
+is_of_kind (Move node to) TooManyChildren = true
+is_of_kind (Move node to) TooDeep = true
+is_of_kind (Move node to) (Full asked end) = true
+is_of_kind (SetLabel node label) BadLabel = true
+is_of_kind (SetDims node shape) BadShape = true
+is_of_kind (SetDims node shape) TooLarge = true
+is_of_kind (SetDims node shape) (Full asked end) = true
+is_of_kind (PutAll node given) NoData = true
+is_of_kind (PutAll node given) TooLarge = true
+is_of_kind (PutAll node given) (WrongLength want got) = true
+is_of_kind (PutAll node given) (Full asked end) = true
+is_of_kind (PutPart node selection given) NoData = true
+is_of_kind (PutPart node selection given) TooLarge = true
+is_of_kind (PutPart node selection given) BadRange = true
+is_of_kind (PutPart node selection given) (WrongLength want got) = true
+is_of_kind (PutPart node selection given) (Full asked end) = true
+is_of_kind (Link at wanted file path) BadName = true
+is_of_kind (Link at wanted file path) Duplicate = true
+is_of_kind (Link at wanted file path) TooManyChildren = true
+is_of_kind (Link at wanted file path) TooDeep = true
+is_of_kind (Link at wanted file path) BadLink = true
+is_of_kind (Link at wanted file path) TooLarge = true
+is_of_kind (Link at wanted file path) (Full asked end) = true
+is_of_kind edit error = false
+
+-- an error that an edit may be refused with: those of links only where it follows them
+abbrev pub may_refuse_edit : Edit → AdfError → Bool
+may_refuse_edit edit error = is_of_edits error || (is_of_links error && is_some (followed edit)) || is_of_kind edit error
+
 pub record ChangedAnyway {A : Type 0} (files : Files) (before : Devices) (edits : List Edit) (result : Result A EditError) (now : Devices) (after : Files) : Type 0 where
   pub leaves : GroupLeaves result files before edits now after
   pub names : names_there after ≡ names_there files
   pub entry : EntersGroup files edits result
   pub cause : HasGroupCause files before now result
+  pub kind : IfErr result (λ refusal. (edit : Edit) → slice_get edits refusal.at ≡ Some edit → IsTrue (may_refuse_edit edit refusal.error))
 
 -- ---- all calls
 

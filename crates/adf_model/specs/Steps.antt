@@ -1,5 +1,5 @@
 -- What each call may answer, and what it leaves.
-use Rattle.std.specs.Prelude.{◌≡◌, ◌≢◌, ◌⊎◌, ℕ, ◌+◌, ◌-◌, ◌*◌, ◌^◌, ◌<◌, ◌≤◌, min, Bool, true, false, IsTrue, not, List, [], ◌∷◌, length, take, Option, Some, None, IsSome, option_map, Result, Ok, Err, slice_get, IfSome, IfOk}
+use Rattle.std.specs.Prelude.{◌≡◌, ◌≢◌, ◌⊎◌, ℕ, ◌+◌, ◌*◌, ◌<◌, ◌≤◌, Bool, true, false, IsTrue, not, List, [], ◌∷◌, length, take, Option, Some, None, IsSome, option_map, Result, Ok, Err, slice_get, IfSome, IfOk}
 use Rattle.adf_model.specs.declared.error.AdfError.{AdfError}
 use Rattle.adf_model.specs.declared.error.AdfError.TheVariants.{Memory, ReadFault, WriteFault, NotOpen, NoSuchFile, AlreadyOpen, NoSuchNode, NotAChild, NoData, BadRange, LinkMissing, LinkChain, NotALink, Layout, NotEmpty, TooLarge, Full, NotFound, Syntax, LineTooLong}
 use Rattle.adf_model.specs.declared.error.EditError.{EditError}

@@ -1,7 +1,7 @@
 //! Laws of how files stand after openings and groups of edits, and of the causes of refusals. No
 //! function here does anything: its contract is the law.
 
-ghost use Rattle.std.specs.Prelude.{◌≡◌, ◌≢◌, ◌⊎◌, [], ℕ, Bool, List, length, false, slice_get, Option, Some, None, Result, Ok, Err};
+ghost use Rattle.std.specs.Prelude.{◌≡◌, ◌≢◌, ◌⊎◌, IsTrue, [], ℕ, Bool, List, length, false, slice_get, Option, Some, None, Result, Ok, Err};
 ghost use Rattle.adf_format.specs.Tree.{Tree};
 ghost use Rattle.adf_format.specs.Placement.{Placement};
 ghost use Rattle.adf_format.specs.HeapRule.{LimitReached, place_edit};
@@ -10,12 +10,13 @@ ghost use Rattle.adf_model.specs.declared.error.EditError.{EditError};
 ghost use Rattle.adf_model.specs.declared.tree.Edit.{Edit};
 ghost use Rattle.adf_model.specs.declared.tree.NodeId.{NodeId};
 ghost use Rattle.adf_model.specs.Tests.{first_refusal};
-ghost use Rattle.adf_model.specs.Edits.{file_tests_at_entry, file_step, named_nodes};
+ghost use Rattle.adf_model.specs.Calls.{edit_group};
+ghost use Rattle.adf_model.specs.Edits.{apply, file_tests_at_entry, file_step, named_nodes};
 ghost use Rattle.adf_model.specs.Placing.{placed_as};
 ghost use Rattle.adf_model.specs.Slots.{Standing, Files, Devices, device_at, standings, slot_at, is_gone, names_there, number_of, entry_files};
 ghost use Rattle.adf_model.specs.Counts.{Rose};
 ghost use Rattle.adf_model.specs.Steps.{WriteFailed, Opening, close_tests, open_tests, IsEdit, IsFileRefusal, IsLineError, Call, Opened, Closed, Discarded, Step, Misread};
-ghost use Rattle.adf_model.specs.Causes.{OpensStanding, HasOpenCause, standing_by, OpenedAnyway, MovesStanding, ClosedAnyway, DiscardedAnyway, GroupLeaves, Anyway};
+ghost use Rattle.adf_model.specs.Causes.{OpensStanding, HasOpenCause, standing_by, OpenedAnyway, MovesStanding, ClosedAnyway, DiscardedAnyway, GroupLeaves, Anyway, may_refuse_edit};
 ghost use Rattle.adf_model.specs.NamedRules.{NamesRules};
 
 /// A done opening changes how its own file stands alone, a refused one changes none; and what may be
@@ -90,4 +91,11 @@ pub fn shelves_by_name()
 /// A refusal that names a rule of the layout names one that there is, whether devices tell or not.
 pub fn refusals_name_rules()
     ensures { (files after : Files) (before now : Devices) (call : Call) → Anyway files before call now after → NamesRules call }
+{}
+
+/// An edit is refused with an error that its kind may have, alone and in a group.
+pub fn edits_have_causes()
+    ensures alone { (tree : Tree) (edit : Edit) (error : AdfError) → apply tree edit ≡ Err error → IsTrue (may_refuse_edit edit error) }
+    ensures grouped { (files : Files) (edits : List Edit) (refusal : EditError) (edit : Edit) → edit_group files edits ≡ Err refusal → slice_get edits refusal.at ≡ Some edit →
+        IsTrue (may_refuse_edit edit refusal.error) }
 {}

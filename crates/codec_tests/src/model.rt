@@ -201,5 +201,7 @@ fn laws_of_calls_are_calls() {
     standing_laws::groups_stand();
     standing_laws::one_file_refuses();
     standing_laws::lines_change_nothing();
+    standing_laws::refusals_name_rules();
+    standing_laws::edits_have_causes();
     standing_laws::shelves_by_name();
 }

@@ -1,4 +1,4 @@
-use Rattle.std.proofs.Common.{◌∙◌}
+use Rattle.std.proofs.Common.{◌∙◌, arith}
 use Rattle.file_heap.proofs.Effects.{looks_then}
 use Rattle.file_heap.proofs.WalkLaws.{found_spot, found_none, some_has}
 use Rattle.file_heap.proofs.lists.find.Goals as goal
@@ -19,4 +19,5 @@ loop-list-preserved g c = record {
 }
 
 pub returns-clause-cause : goal.returns-clause-cause
-returns-clause-cause g c = some_has (g.S.ReadBytes.image c.args.space.now) c.args.gaps.now c.args.place c.loop-list.list c.requires.free c.requires.threads c.loop-list.invariant.none c.loop-list-test.false
+returns-clause-cause g c =
+    ((omega arith, omega arith), some_has (g.S.ReadBytes.image c.args.space.now) c.args.gaps.now c.args.place c.loop-list.list c.requires.free c.requires.threads c.loop-list.invariant.none c.loop-list-test.false)
