@@ -1,5 +1,5 @@
 -- What each call may answer and leave also where devices tell nothing: files, names, standings, counts and causes.
-use Rattle.std.specs.Prelude.{◌≡◌, ◌⊎◌, ℕ, ◌<◌, Bool, true, is_some, if◌then◌else◌, List, [], ◌∷◌, length, slice_get, slice_set, Option, Some, None, IfSome, Result, Ok, Err, IfOk, IfErr, ◌||◌, ◌&&◌}
+use Rattle.std.specs.Prelude.{◌≡◌, ◌⊎◌, ℕ, ◌<◌, Bool, true, false, IsTrue, is_some, if◌then◌else◌, List, [], ◌∷◌, length, slice_get, slice_set, Option, Some, None, IfSome, Result, Ok, Err, IfOk, IfErr, ◌||◌, ◌&&◌}
 use Rattle.adf_model.specs.declared.error.AdfError.{AdfError}
 use Rattle.adf_model.specs.declared.error.AdfError.TheVariants.{Memory, ReadFault, WriteFault, NotOpen, NoSuchFile, ReadOnly, NoSuchNode, NotAChild, BadName, Duplicate, BadLabel, BadShape, NoData, BadRange, WrongLength, IntoItself, TooDeep, LinkMissing, LinkChain, BadLink, Layout, NotEmpty, TooLarge, TooManyChildren, Full, OtherFile}
 use Rattle.adf_model.specs.declared.error.EditError.{EditError}

@@ -2,7 +2,7 @@
 use Rattle.std.proofs.Common.{◌≡◌, refl, sym, subst, Bool, true, false, not, ◌||◌, List, [], ◌∷◌}
 use Rattle.std.specs.Prelude.{Result, Ok, Err, IsTrue}
 use Rattle.adf_model.specs.declared.error.AdfError.{AdfError}
-use Rattle.adf_model.specs.declared.error.AdfError.TheVariants.{Memory, ReadFault, NoSuchFile, NotOpen}
+use Rattle.adf_model.specs.declared.error.AdfError.TheVariants.{Memory, ReadFault, NoSuchFile, NotOpen, Layout}
 use Rattle.adf_model.specs.declared.tree.NodeId.{NodeId}
 use Rattle.adf_model.specs.declared.tree.Query.{Query}
 use Rattle.adf_model.specs.declared.tree.Reply.{Reply}
@@ -72,4 +72,5 @@ pub query_cause : {A : Type 0} (files : Files) (a b : Devices) (query : Query) (
 query_cause {A = A} files a b query (Ok value) entry h = tt
 query_cause {A = A} files a b query (Err ReadFault) entry h =
     of_open (goes_through_links query) files (asked_node query) a b (opened A files (asked_node query) (slot_at files (asked_node query).file) refl entry) h
+query_cause {A = A} files a b query (Err (Layout rule place)) entry h = h
 query_cause {A = A} files a b query (Err error) entry h = error_allowed query error h
