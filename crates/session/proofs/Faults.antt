@@ -20,7 +20,7 @@ ran_counts files after before now [] h = same_counts before now h.0
 ran_counts files after before now (turn ∷ turns) h = λ number.
     let first = any_counts before h.1 files h.0 turn.call h.2.1.anyway number in
     let rest = ran_counts h.0 after h.1 now turns h.3 number in
-    record { faults = le_trans first.faults rest.faults; lost = le_trans first.lost rest.lost; writes = le_trans first.writes rest.writes }
+    record { faults = le_trans first.faults rest.faults; lost = le_trans first.lost rest.lost; reads = le_trans first.reads rest.reads; writes = le_trans first.writes rest.writes }
 
 pub ran_bound : (files after : Files) (before now : Devices) (turns : List Turn) → Below now → Ran files before turns now after → total_faults before + fault_replies (calls_of turns) ≤ total_faults now
 ran_bound files after before now [] below h = stayed before now (same_counts before now h.0)

@@ -1,5 +1,5 @@
 -- What a line makes, from what its reading and its call say.
-use Rattle.std.proofs.Common.{◌≡◌, ℕ, ◌^◌, ◌<◌, ◌≤◌, inl, inr, List, [], ◌∷◌, length, true, false, Some, None, Result, Ok, Err, OnOk, IfErr, refl, sym, ap, subst}
+use Rattle.std.proofs.Common.{◌≡◌, arith, ℕ, ◌^◌, ◌<◌, ◌≤◌, inl, inr, List, [], ◌∷◌, length, true, false, Some, None, Result, Ok, Err, OnOk, IfErr, refl, sym, ap, subst}
 use Rattle.adf_model.specs.Slots.{Files, Devices}
 use Rattle.adf_model.specs.Steps.{Call, Opened, Closed, Skipped, Misread, Fresh}
 use Rattle.adf_model.specs.declared.error.AdfError.{AdfError}
@@ -9,14 +9,18 @@ use Rattle.adf_model.specs.declared.tree.Edit.TheVariants as edit
 use Rattle.adf_model.specs.declared.tree.Query.{Query}
 use Rattle.adf_model.specs.declared.tree.Query.TheVariants.{ChildrenOf}
 use Rattle.call_script.specs.Lines.{IsLine, IsRefusal, AreTokens, AreQueryTokens, AreGroupTokens, AreEditTokens}
-use Rattle.call_script.specs.Replies.{reply_line, refusal_text}
+use Rattle.call_script.specs.Replies.{HasRule, HasSpelling, reply_line, refusal_text}
 use Rattle.call_script.specs.declared.calls.Answer.{Answer}
 use Rattle.call_script.specs.declared.calls.Answer.TheVariants as answer
 use Rattle.call_script.specs.declared.calls.Call as script
 use Rattle.call_script.specs.declared.calls.Call.TheVariants as asks
 use Rattle.call_script.specs.declared.calls.OpenMode.{OpenMode}
 use Rattle.call_script.specs.declared.calls.OpenMode.TheVariants.{New}
+use Rattle.std.specs.Prelude.{Option, IfSome}
+use Rattle.adf_model.specs.declared.error.EditError.{EditError}
 use Rattle.adf_model.specs.Causes.{Anyway}
+use Rattle.adf_model.specs.NamedRules.{NamesRule, NamesRules}
+use Rattle.adf_model.proofs.RuleNames.{rules_named}
 use Rattle.session.specs.Calls.{IsBuiltQuery, IsBuiltEdit, IsBuiltGroup, PlainStep, PlainMakes}
 use Rattle.session.specs.Turns.{call_made, IsBuilt, is_skipped, Says}
 use Rattle.session.specs.Turns.Says.{too_long, skips, makes, misreads, lacks_memory}
@@ -86,3 +90,30 @@ answered files after before now line call said given kept is step = (step.0, mak
 pub too_long_turn : (files : Files) (before : Devices) (line : List ℕ) → 2 ^ 20 < length line
     → (made : Call) × Says line made (Some (refusal_text error.LineTooLong)) × PlainMakes files before made before files
 too_long_turn files before line long = (Misread error.LineTooLong, too_long long, nothing_made files before (Misread error.LineTooLong) (tt, refl, refl) (tt, refl, refl))
+
+-- ---- spelling
+
+rule_has : (error : AdfError) → NamesRule error → HasRule error
+rule_has (error.Layout rule place) names = (names.0, omega (arith, names.1))
+rule_has given names = tt
+
+refused_spells : (call : script.Call) (given : AdfError) (made : Call) → call_made call (answer.Refused given) ≡ Some made → NamesRules made → HasRule given
+refused_spells (asks.Open number New limit) given made e names = rule_has given (subst (λ (o : Option Call). IfSome o NamesRules) (sym e) names)
+refused_spells (asks.Close number) given made e names = rule_has given (subst (λ (o : Option Call). IfSome o NamesRules) (sym e) names)
+refused_spells (asks.Ask query) given made e names = rule_has given (subst (λ (o : Option Call). IfSome o NamesRules) (sym e) names)
+refused_spells (asks.Edit edits) given made e names = absurd cc
+
+edit_spells : (call : script.Call) (refusal : EditError) (made : Call) → call_made call (answer.EditRefused refusal) ≡ Some made → NamesRules made → HasRule refusal.error
+edit_spells (asks.Open number New limit) refusal made e names = absurd cc
+edit_spells (asks.Close number) refusal made e names = absurd cc
+edit_spells (asks.Ask query) refusal made e names = absurd cc
+edit_spells (asks.Edit edits) refusal made e names = rule_has refusal.error (subst (λ (o : Option Call). IfSome o NamesRules) (sym e) names)
+
+said_spells : (call : script.Call) (said : Answer) (made : Call) → call_made call said ≡ Some made → NamesRules made → HasSpelling said
+said_spells call (answer.Refused given) made e names = refused_spells call given made e names
+said_spells call (answer.EditRefused refusal) made e names = edit_spells call refusal made e names
+said_spells call said made e names = tt
+
+-- the answer to a call that was made for a line has a spelling
+pub spells : (files after : Files) (before now : Devices) (call : script.Call) (said : Answer) → (made : Call) × (call_made call said ≡ Some made) × PlainMakes files before made now after → HasSpelling said
+spells files after before now call said step = said_spells call said step.0 step.1 (rules_named files after before now step.0 step.2.anyway)

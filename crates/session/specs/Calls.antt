@@ -2,6 +2,8 @@
 use Rattle.std.specs.Prelude.{◌≡◌, ℕ, List, [], ◌∷◌, Some, Ok, Err, ⊤}
 use Rattle.adf_model.specs.declared.error.AdfError.{AdfError}
 use Rattle.adf_model.specs.declared.error.AdfError.TheVariants.{WriteFault}
+use Rattle.adf_model.specs.declared.mode.Mode.{Mode}
+use Rattle.adf_model.specs.declared.mode.Mode.TheVariants.{New}
 use Rattle.adf_model.specs.declared.tree.Edit.{Edit}
 use Rattle.adf_model.specs.declared.tree.Edit.TheVariants.{Create}
 use Rattle.adf_model.specs.declared.tree.Query.{Query}
@@ -10,6 +12,11 @@ use Rattle.adf_model.specs.Slots.{Files, Devices, device_at}
 use Rattle.adf_model.specs.Torn.{Torn}
 use Rattle.adf_model.specs.Steps.{Call, Changed, CommitStops, Edited, IsGroupRefusal, Step}
 use Rattle.adf_model.specs.Runs.{MakesBy}
+
+-- a mode in which a line may open a file
+abbrev pub IsBuiltMode : Mode → Type 0
+IsBuiltMode New = ⊤
+IsBuiltMode mode = ⊥
 
 -- a query that a line may ask
 abbrev pub IsBuiltQuery : Query → Type 0

@@ -8,7 +8,7 @@ ghost use Rattle.session.specs.Calls.{PlainMakes};
 ghost use Rattle.session.specs.Turns.{IsBuilt, call_made, is_skipped, Says};
 
 use crate::calls::FileCalls;
-use adf_model::{AdfError, Reply};
+use adf_model::{AdfError, Mode, Reply};
 use call_script::{Answer, Call, OpenMode, read_line};
 use std::alloc::Global;
 
@@ -46,14 +46,13 @@ fn answer_to<C: FileCalls>(calls: &mut C, call: &Call) -> Answer
     requires built { IsBuilt call.now }
     ensures ready { C.is_ready calls.new }
     ensures step { (made : steps.Call) × (call_made call.now result ≡ Some made) × PlainMakes (C.files calls.old) (C.devices calls.old) made (C.devices calls.new) (C.files calls.new) }
-    ensures spelling { HasSpelling result }
 {
     match call {
         Call::Open {
             number,
             mode: OpenMode::New,
             limit,
-        } => done(calls.open_new(*number, *limit)),
+        } => done(calls.open(*number, Mode::New, *limit)),
         Call::Close { number } => done(calls.close(*number)),
         Call::Ask(query) => match calls.ask(query) {
             Ok(Reply::Children(children)) => Answer::Children(children),

@@ -3,7 +3,7 @@ use Rattle.session.proofs.Said.{opened, closed}
 use Rattle.session.proofs.turns.answer_to.Goals as goal
 
 pub returns-in-Open-default-New-default-clause-step : goal.returns-in-Open-default-New-default-clause-step
-returns-in-Open-default-New-default-clause-step g c = rw c.in-Open-default-New-default.is (opened _ _ _ _ _ c.in-Open-default-New-default.mode _ _ _ c.done.ensures.done c.done.ensures.refused (c.open_new.ensures.makes))
+returns-in-Open-default-New-default-clause-step g c = rw c.in-Open-default-New-default.is (opened _ _ _ _ _ c.in-Open-default-New-default.mode _ _ _ c.done.ensures.done c.done.ensures.refused (c.open.ensures.makes))
 
 pub returns-in-Close-clause-step : goal.returns-in-Close-clause-step
 returns-in-Close-clause-step g c = rw c.in-Close.is (closed _ _ _ _ _ _ _ c.done-in-Close.ensures.done c.done-in-Close.ensures.refused (c.close.ensures.makes))

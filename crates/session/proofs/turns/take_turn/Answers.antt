@@ -1,5 +1,5 @@
 use Rattle.std.proofs.Common.{◌∙◌, sym, ap, Err}
-use Rattle.session.proofs.Said.{skipped, answered, refused}
+use Rattle.session.proofs.Said.{skipped, answered, refused, spells}
 use Rattle.session.proofs.turns.take_turn.Goals as goal
 
 pub returns-then-skips-clause-turn : goal.returns-then-skips-clause-turn
@@ -10,3 +10,6 @@ returns-in-Ok-clause-turn g c = answered _ _ _ _ _ _ _ c.requires.short (sym c.s
 
 pub returns-in-Err-clause-turn : goal.returns-in-Err-clause-turn
 returns-in-Err-clause-turn g c = refused _ _ _ _ c.requires.short (sym c.skips.ensures ∙ c.if-skips.false) c.in-Err.ensures.why (λ is. c.in-Err.ensures.none (ap Err is))
+
+pub returns-in-Ok-clause-spelling : goal.returns-in-Ok-clause-spelling
+returns-in-Ok-clause-spelling g c = spells _ _ _ _ _ _ c.answer_to.ensures.step
