@@ -27,7 +27,7 @@ all_less : (a b : ℕ) (gs : List Extent) → a ≤ b → AllFrom b gs → AllFr
 all_less a b [] le h = tt
 all_less a b (g ∷ gs) le h = (let k : b ≤ g.place = h.0 in omega (arith, le, k), all_less a b gs le h.1)
 
-order_from : (g : Extent) (gs : List Extent) → AreGapsInOrder (g ∷ gs) → AllFrom (end_of g) gs
+pub order_from : (g : Extent) (gs : List Extent) → AreGapsInOrder (g ∷ gs) → AllFrom (end_of g) gs
 order_from g [] o = tt
 order_from g (h ∷ gs) o =
     let le : end_of g ≤ h.place = o.1.0 in
@@ -69,7 +69,7 @@ small_filler g h s = pick h.1
 front : (f : Extent) (place n : ℕ) → end_of f ≤ place → (IsTrue (is_filler f) → n < 32 → end_of f < place) → AreSeparate f (new_gap place n)
 front f place n le lt = (subst (λ (x : ℕ). end_of f ≤ x) (sym (gap_place place n)) le, λ ff fn. subst (λ (x : ℕ). end_of f < x) (sym (gap_place place n)) (lt ff (new_filler place n fn)))
 
-tail_apart : (place n : ℕ) (g : Extent) (gs : List Extent) → end_of g ≡ place → AllFrom (end_of g) gs → AreGapsInOrder gs → AreApartFrom place n gs → AreApartFrom g.place (g.length + n) gs
+pub tail_apart : (place n : ℕ) (g : Extent) (gs : List Extent) → end_of g ≡ place → AllFrom (end_of g) gs → AreGapsInOrder gs → AreApartFrom place n gs → AreApartFrom g.place (g.length + n) gs
 tail_apart place n g [] e from o m = tt
 tail_apart place n g (h ∷ gs) e from o m = (inr (pick m.0), tail_apart place n g gs e from.1 o.2 m.1)
   where

@@ -159,7 +159,7 @@ apart_from place n g pos long none = elim (leb_tells (end_of g) place) [
     behind : g.place < place + n → place < g.place → ⊥
     behind k m = let out : holds_byte g g.place ≡ false = none g.place (omega (arith, m)) k in grind (arith, nat_tests)
 
-cover_apart : (place n : ℕ) (gaps : List Extent) → 0 < n → AreGapsInOrder gaps → MeetsNone place n gaps → AllByRecursion (IsApartFrom place n) gaps
+pub cover_apart : (place n : ℕ) (gaps : List Extent) → 0 < n → AreGapsInOrder gaps → MeetsNone place n gaps → AllByRecursion (IsApartFrom place n) gaps
 cover_apart place n [] pos o m = tt
 cover_apart place n (g ∷ gs) pos o m =
     (apart_from place n g pos o.0.0 (λ b low high. (none_holds g gs b (m b low high)).0), cover_apart place n gs pos o.2 (λ b low high. (none_holds g gs b (m b low high)).1))

@@ -9,6 +9,8 @@ pub mod HexLaws
 pub mod TileLaws
 pub mod HeapLaws
 pub mod HeapSteps
+pub mod ReachedLaws
+pub mod GiveOrder
 pub mod WalkLaws
 pub mod RecordTest
 pub mod FreshLaidOut

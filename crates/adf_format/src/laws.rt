@@ -1,7 +1,7 @@
 //! Laws of the definitions. Each is the contract of a function that does nothing: who calls it has the law.
 
 ghost use Rattle.std.specs.Prelude.{◌≡◌, ◌≢◌, ◌⊎◌, ℕ, ◌+◌, ◌*◌, ◌^◌, ◌<◌, ◌≤◌, Bool, true, false, IsTrue, List, [], ◌∷◌, ◌++◌, length, map, take, drop, filter, codes, slice_get, is_some, Some, Ok};
-ghost use Rattle.std.specs.List.{list_all};
+ghost use Rattle.std.specs.List.{list_all, AllByRecursion};
 ghost use Rattle.std.specs.declared.result.Result.{Result};
 ghost use Rattle.adf_format.specs.Hex.{hex_value, hex_text};
 ghost use Rattle.adf_format.specs.Pointer.{Pointer, Blank, To, pointer, pointer_text, IsMadeOf};
@@ -15,7 +15,7 @@ ghost use Rattle.adf_format.specs.Placement.{Placement, NodeParts, Heap, extent,
 ghost use Rattle.adf_format.specs.Fields.{field};
 ghost use Rattle.adf_format.specs.RecordFields.{StandInRow, field_end, header_fields, what_fields, header_size, free_table_fields, list_end, list_first, list_last, node_fields, node_length, head_fields, free_head_fields, entry_fields, chunk_entry_fields, entry_name_at, entry_child_at, chunk_start_at, chunk_end_at};
 ghost use Rattle.adf_format.specs.declared.fields.TheConstants.{HEADER_WHAT, HEADER_SIZES, HEADER_LENGTH, FREE_TABLE_LENGTH, FREE_TABLE_PLACE, SMALL_FIRST, SMALL_LAST, MEDIUM_FIRST, MEDIUM_LAST, LARGE_FIRST, LARGE_LAST, SUB_NODES_TAG, DATA_TAG, CHUNKS_TAG, FREE_CHUNK_TAG, HEAD_LENGTH, FREE_HEAD_LENGTH, ENTRY_LENGTH, CHUNK_ENTRY_LENGTH};
-ghost use Rattle.adf_format.specs.LaysOut.{LaysOut, HoldsNode, AreGapsInOrder};
+ghost use Rattle.adf_format.specs.LaysOut.{LaysOut, HoldsNode, AreGapsInOrder, HasSameRanges};
 ghost use Rattle.adf_format.specs.Checks.{Fault};
 ghost use Rattle.adf_format.specs.FirstFault.{count_up, Visit, FreeVisit, NodeWalk, FreeWalk, FirstFault, HasNoFault, end_in, is_wide};
 ghost use Rattle.adf_format.specs.SoundPart.{format_in};
@@ -23,7 +23,7 @@ ghost use Rattle.adf_format.specs.Verdict.{NodePlace, IsLaidOutAs};
 ghost use Rattle.adf_format.specs.Packed.{IsPacked};
 ghost use Rattle.adf_format.specs.Cache.{touch};
 ghost use Rattle.adf_format.specs.declared.types.Format.{Format};
-ghost use Rattle.adf_format.specs.HeapRule.{heap_take, heap_give, pairs};
+ghost use Rattle.adf_format.specs.HeapRule.{heap_take, heap_give, give_joined, give_all, pairs};
 ghost use Rattle.adf_format.specs.Changes.{KeepsBut, AllApart, SameChildren};
 ghost use Rattle.adf_format.specs.Fresh.{fresh_text, fresh_end, fresh_placement};
 
@@ -118,6 +118,14 @@ pub fn gives()
         → Tiles (used ++ (heap_give place n heap).gaps) heap.end }
     ensures order { (place n : ℕ) (heap : Heap) → 0 < n → AreGapsInOrder heap.gaps → MeetsNone place n heap.gaps
         → AreGapsInOrder (heap_give place n heap).gaps × (pairs (heap_give place n heap).gaps ≤ pairs heap.gaps) }
+{}
+
+/// Ranges that lie apart may be given in any order: the same gaps are left.
+pub fn gives_in_any_order()
+    ensures two { (place n other m : ℕ) (gaps : List Extent) → 0 < n → 0 < m → (place + n ≤ other) ⊎ (other + m ≤ place) → AreGapsInOrder gaps → MeetsNone place n gaps → MeetsNone other m gaps
+        → give_joined other m (give_joined place n gaps) ≡ give_joined place n (give_joined other m gaps) }
+    ensures all { (given same : List Extent) (heap : Heap) → AllByRecursion (λ (e : Extent). 0 < e.length) given → ((b : ℕ) → cover (given ++ heap.gaps) b ≤ 1) → AreGapsInOrder heap.gaps → HasSameRanges given same
+        → give_all given heap ≡ give_all same heap }
 {}
 
 /// The fresh tree of each version is a tree, and the fresh file lays it out.

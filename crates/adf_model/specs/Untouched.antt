@@ -111,9 +111,10 @@ pub record KeepsRest (limit : ℕ) (tree : Tree) (p : Placement) (done : List (E
   pub past_rank : KeepsPastRank tree done p q old new
   pub unused : KeepsUnused tree done p q old new
 
--- no byte is lost, and those behind an end read as before: where the file grew there are zeros
+-- no byte is lost, and those behind an end read as before: where the file grew there are zeros, at most to the end of that end's block
 pub record KeepsTail (end : ℕ) (old new : List ℕ) : Type 0 where
   pub longer : length old ≤ length new
+  pub grown : length new ≤ max (length old) ((end / 4096 + 1) * 4096)
   pub tail : (b : ℕ) → end < b → slice_index_or new b 0 ≡ slice_index_or old b 0
 
 -- a byte that a group may write: it stands within the end, and in no live part that the group does not touch

@@ -1,7 +1,7 @@
 //! Laws of the parts of a file that a group of edits does not touch. No function here does anything:
 //! its contract is the law.
 
-ghost use Rattle.std.specs.Prelude.{◌≡◌, ◌≢◌, ◌<◌, ◌≤◌, ◌+◌, ◌*◌, ◌/◌, [], ℕ, Bool, List, length, slice_get, slice_index_or, Some, Ok};
+ghost use Rattle.std.specs.Prelude.{◌≡◌, ◌≢◌, ◌<◌, ◌≤◌, ◌+◌, ◌*◌, ◌/◌, max, [], ℕ, Bool, List, length, slice_get, slice_index_or, Some, Ok};
 ghost use Rattle.std.specs.List.{Contains};
 ghost use Rattle.adf_format.specs.declared.types.Extent.{Extent};
 ghost use Rattle.adf_format.specs.Fields.{field};
@@ -41,7 +41,8 @@ pub fn parts_stay()
 {}
 
 /// A group that was done keeps the date of creation, each part that none of its edits touches, the
-/// dimensions and the entries that are in use over none of them, and the bytes behind the end.
+/// dimensions and the entries that are in use over none of them, and the bytes behind the end; and it
+/// makes the file grow at most to the end of the block of its end.
 pub fn groups_leave_the_rest()
     ensures parts { (files : Files) (before now : Devices) (edits : List Edit) (created : List NodeId) (group : Group) (number : ℕ) (opened : Open) (old new : List ℕ) (e : Extent) →
         IsUntouchedGroup files before edits (Ok created) now → edit_group files edits ≡ Ok group → group.file ≡ Some number → open_at files number ≡ Some opened →
@@ -58,6 +59,8 @@ pub fn groups_leave_the_rest()
         field new (to.header + 130) (12 * dimension_digits opened.tree.wide) ≡ field old (from.header + 130) (12 * dimension_digits opened.tree.wide) }
     ensures tail { (before now : Devices) (number : ℕ) (opened : Open) (group : Group) (old new : List ℕ) (b : ℕ) → LeavesUntouched before now number opened group →
         (device_at before number).held ≡ Some old → (device_at now number).held ≡ Some new → (device_at now number).placement.heap.end < b → slice_index_or new b 0 ≡ slice_index_or old b 0 }
+    ensures grown { (before now : Devices) (number : ℕ) (opened : Open) (group : Group) (old new : List ℕ) → LeavesUntouched before now number opened group →
+        (device_at before number).held ≡ Some old → (device_at now number).held ≡ Some new → length new ≤ max (length old) (((device_at now number).placement.heap.end / 4096 + 1) * 4096) }
     ensures past_rank { (before now : Devices) (number : ℕ) (opened : Open) (group : Group) (old new : List ℕ) → LeavesUntouched before now number opened group →
         (device_at before number).held ≡ Some old → (device_at now number).held ≡ Some new →
         KeepsPastRank opened.tree group.done (device_at before number).placement (device_at now number).placement old new }

@@ -52,6 +52,7 @@ puts old new n made block same updates is = record {
   others = λ m ne. updates.2 m (apart n m ne);
   farther = let far = reach-insert old.entries n made in let far' = sym is in rw is (omega arith);
   reaches = let far = reach-insert old.entries n made in rw is (omega arith);
+  no_farther = let far = reach-insert old.entries n made in rw is (omega arith);
   few = let more = few-insert old.entries n made in rw is more;
 }
 
@@ -88,6 +89,7 @@ patches old new n was made sized found writes = let updates = writes.3 (rw found
   others = λ m ne. updates.2 m (apart n m ne);
   farther = let same = reach-set old.entries (is_at (nat_cmp n)) made in rw writes.0 (omega arith);
   reaches = let same = reach-set old.entries (is_at (nat_cmp n)) made in let far = (found_within old.entries n was sized found).1 in rw writes.0 (omega arith);
+  no_farther = let same = reach-set old.entries (is_at (nat_cmp n)) made in rw writes.0 (omega arith);
   few = let same = writes.2 in omega arith;
 }
 

@@ -36,10 +36,10 @@ outside_part at k start from le (inl lt) = inl (omega arith)
 outside_part at k start from le (inr past) = inr (omega arith)
 
 -- a part of a block that is changed
-pub changes_part : (held : Option (List ℕ)) (old new : List (ℕ × List ℕ)) (n start : ℕ) (from was block : List ℕ) → AreChanges old → AreChanges new → start + length from ≤ 4096 → length was ≡ 4096
+pub changes_part : (held : Option (List ℕ)) (old new : List (ℕ × List ℕ)) (n start : ℕ) (from was block : List ℕ) → AreChanges old → AreChanges new → 1 ≤ length from → start + length from ≤ 4096 → length was ≡ 4096
     → (length from ≢ 4096 → Gives (image_of held old) n was) → block ≡ overwritten was start from → Puts n block old new → Both (Wrote (n * 4096 + start) from) (image_of held old) (image_of held new)
-changes_part None old new n start from was block olds news fits size gives is puts = tt
-changes_part (Some bytes) old new n start from was block olds news fits size gives is puts = record {
+changes_part None old new n start from was block olds news some fits size gives is puts = tt
+changes_part (Some bytes) old new n start from was block olds news some fits size gives is puts = record {
   longer = let far = puts.farther in omega (arith, long_old, long_new);
   reaches = λ some. let far = puts.reaches in omega (arith, long_new);
   within = λ k le lt. in_block image' n k (omega arith) (omega arith) ∙ ap (λ (l : List ℕ). get_or l (k - n * 4096) 0) (here ∙ is)
@@ -50,6 +50,7 @@ changes_part (Some bytes) old new n start from was block olds news fits size giv
         ∙ ap (λ (l : List ℕ). get_or l (k - n * 4096) 0) (gives (part k same out)) ∙ sym (in_block image n k (omega arith) (omega arith))
     | inr ne ↦ in_block image' (k / 4096) k (omega arith) (omega arith) ∙ ap (λ (l : List ℕ). get_or l (k - k / 4096 * 4096) 0) (elsewhere (k / 4096) ne) ∙ sym (in_block image (k / 4096) k (omega arith) (omega arith))
   ];
+  grows = λ k past here. let far = puts.no_farther in (some, omega (arith, long_old, long_new));
 }
   where
     image : List ℕ
@@ -76,11 +77,11 @@ changes_part (Some bytes) old new n start from was block olds news fits size giv
     elsewhere m ne = image_block bytes new m news.sizes news.ascend ∙ ap (λ (o : Option (List ℕ)). unwrap_or o (bytes_at bytes (m * 4096) 4096)) (puts.others m ne) ∙ sym (image_block bytes old m olds.sizes olds.ascend)
 
 -- a changed block of which a part is changed again
-pub patches_part : (held found : Option (List ℕ)) (old new : List (ℕ × List ℕ)) (n start : ℕ) (from : List ℕ) → AreChanges old → AreChanges new → start + length from ≤ 4096
+pub patches_part : (held found : Option (List ℕ)) (old new : List (ℕ × List ℕ)) (n start : ℕ) (from : List ℕ) → AreChanges old → AreChanges new → 1 ≤ length from → start + length from ≤ 4096
     → block_in old n ≡ found → IsSome found → IfSome found (λ was. Puts n (overwritten was start from) old new) → Both (Wrote (n * 4096 + start) from) (image_of held old) (image_of held new) × ChangesOnly n old new
-patches_part held None old new n start from olds news fits is some puts = cc
-patches_part held (Some was) old new n start from olds news fits is some puts =
-    (changes_part held old new n start from was (overwritten was start from) olds news fits (found_within old n was olds.sizes is).0 (λ _. loads_changed held old n was olds is) refl puts, record { others = puts.others; few = puts.few })
+patches_part held None old new n start from olds news some fits is found puts = cc
+patches_part held (Some was) old new n start from olds news some fits is found puts =
+    (changes_part held old new n start from was (overwritten was start from) olds news some fits (found_within old n was olds.sizes is).0 (λ _. loads_changed held old n was olds is) refl puts, record { others = puts.others; few = puts.few })
 
 wrote_then : (p d c : ℕ) (from piece a b z : List ℕ) → 1 ≤ c → d + c ≤ length from → piece ≡ take (d + c - d) (drop d from) → Wrote p (take d from) a b → Wrote (p + d) piece b z → Wrote p (take (d + c) from) a z
 wrote_then p d c from piece a b z some fits is first then = record {
@@ -92,6 +93,10 @@ wrote_then p d c from piece a b z some fits is first then = record {
         ∙ get_or-drop d from (k - (p + d)) 0 ∙ ap (λ i. get_or from i 0) (omega arith) ∙ sym (get_or-take (d + c) from (k - p) 0 (omega (arith, lt, whole)))
   ];
   outside = λ k out. then.outside k (elim out [ inl lt ↦ inl (omega arith) | inr le ↦ inr (omega (arith, le, size, whole)) ]) ∙ first.outside k (elim out [ inl lt ↦ inl lt | inr le ↦ inr (omega (arith, le, front, whole)) ]);
+  grows = λ k past here. elim (cases_lt k (length b)) [
+    | inl before ↦ let one = first.grows k past before in (omega (arith, one.0, front, whole), omega (arith, one.0, one.1, front, whole))
+    | inr after ↦ let two = then.grows k after here in (omega (arith, two.0, size, whole), omega (arith, two.1, size, whole))
+  ];
 }
   where
     size : length piece ≡ c

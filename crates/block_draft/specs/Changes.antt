@@ -52,6 +52,7 @@ pub record Puts (n : ℕ) (block : List ℕ) (old new : List (ℕ × List ℕ)) 
   pub others : (m : ℕ) → m ≢ n → block_in new m ≡ block_in old m
   pub farther : reach old ≤ reach new
   pub reaches : n * 4096 + 4096 ≤ reach new
+  pub no_farther : reach new ≤ max (reach old) (n * 4096 + 4096)
   pub few : length new ≤ length old + 1
 
 -- no block but this one is changed anew, or otherwise

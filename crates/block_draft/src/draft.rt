@@ -161,6 +161,7 @@ impl<B: Blocks> Draft<B> {
     // Changes a part of a block.
     fn change(&mut self, n: u32, start: usize, from: &[u8]) -> Result<(), SpaceFault>
         requires sound { B.is_sound self.old.blocks }
+        requires some { 1 ≤ length from.now }
         requires within { start + length from.now ≤ 4096 }
         ensures sound { B.is_sound self.new.blocks }
         ensures written { OnOk result (Both (Wrote (n * 4096 + start) from.now)

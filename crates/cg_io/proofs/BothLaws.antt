@@ -19,4 +19,4 @@ both_then R S (Some old) (Some middle) (Some new) first then = (middle, first, t
 
 -- what was written left the bytes outside its range
 pub wrote_outside : (place : ℕ) (from : List ℕ) (a b : Option (List ℕ)) → Both (Wrote place from) a b → Both (KeepsOutside place (length from)) a b
-wrote_outside place from a b both = both_map (Wrote place from) (KeepsOutside place (length from)) a b (λ old new w. record { longer = w.longer; outside = w.outside }) both
+wrote_outside place from a b both = both_map (Wrote place from) (KeepsOutside place (length from)) a b (λ old new w. record { longer = w.longer; outside = w.outside; grows = w.grows }) both

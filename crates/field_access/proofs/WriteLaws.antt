@@ -5,8 +5,10 @@ use Rattle.std.specs.Prelude.{nat_le, true, false, Option, Some, None, slice_get
 use Rattle.std.proofs.lemmas.Option.{slice_get-get_or}
 use Rattle.cg_io.specs.Blocks.{Both, Wrote, KeepsOutside}
 use Rattle.cg_io.proofs.BothLaws.{both_map}
+use Rattle.adf_format.specs.declared.types.ExtentKind.{ExtentKind}
 use Rattle.adf_format.specs.declared.types.Extent.{Extent}
 use Rattle.adf_format.specs.Changes.{Writes}
+use Rattle.adf_format.proofs.ReachedLaws.{still_changes, more_changes, later_changes, reached_by}
 use Rattle.adf_format.proofs.FieldLaws.{same_field, field_whole}
 use Rattle.adf_format.specs.Tiles.{cover, holds_byte}
 use Rattle.adf_format.proofs.CountLaws.{none_holds}
@@ -53,7 +55,11 @@ out_of_range at n b none = by_place (leb_tells at b)
     by_place (inr h) = inl h.1
 
 changed : (at n : ℕ) (old new : List ℕ) → KeepsOutside at n old new → ChangesOnly (range at n ∷ []) old new
-changed at n old new k = record { longer = k.longer; others = λ b none. k.outside b (out_of_range at n b none) }
+changed at n old new k = record {
+  longer = k.longer;
+  others = λ b none. k.outside b (out_of_range at n b none);
+  grows = λ b past here. let to = k.grows b past here in reached_by ExtentKind.FreeChunk at n b to.0 to.1;
+}
 
 pub all_changed : (at n : ℕ) (old new : Option (List ℕ)) → Both (KeepsOutside at n) old new → Both (ChangesOnly (range at n ∷ [])) old new
 all_changed at n old new k = both_map (KeepsOutside at n) (ChangesOnly (range at n ∷ [])) old new (changed at n) k
@@ -64,11 +70,11 @@ pub widened : (xs ys : List Extent) (old new : Option (List ℕ)) → IsWithin x
 widened xs ys None None within c = tt
 widened xs ys None (Some new) within c = c
 widened xs ys (Some old) None within c = c
-widened xs ys (Some old) (Some new) within c = record { longer = c.longer; others = λ b none. c.others b (within b none) }
+widened xs ys (Some old) (Some new) within c = more_changes xs ys old new within c
 
 pub changes_none : (xs : List Extent) (image : Option (List ℕ)) → Both (ChangesOnly xs) image image
 changes_none xs None = tt
-changes_none xs (Some bytes) = record { longer = omega arith; others = λ b none. refl }
+changes_none xs (Some bytes) = still_changes xs bytes
 
 pub changes_then : (xs : List Extent) (a b c : Option (List ℕ)) → Both (ChangesOnly xs) a b → Both (ChangesOnly xs) b c → Both (ChangesOnly xs) a c
 changes_then xs None None None v w = tt
@@ -76,7 +82,4 @@ changes_then xs None None (Some c) v w = w
 changes_then xs None (Some b) c v w = absurd v
 changes_then xs (Some a) None c v w = absurd v
 changes_then xs (Some a) (Some b) None v w = w
-changes_then xs (Some a) (Some b) (Some c) v w = record {
-  longer = (let p = v.longer in let q = w.longer in omega (arith, p, q));
-  others = λ k none. w.others k none ∙ v.others k none;
-}
+changes_then xs (Some a) (Some b) (Some c) v w = later_changes xs a b c v w

@@ -8,6 +8,7 @@ use Rattle.adf_format.specs.RecordFields.{list_first, list_last}
 use Rattle.adf_format.specs.declared.types.Extent.{Extent}
 use Rattle.adf_format.specs.Tiles.{cover, holds_byte, end_of, is_free}
 use Rattle.adf_format.specs.LaysOut.{ThreadsFreeChunks, last_place}
+use Rattle.adf_format.proofs.ReachedLaws.{still_changes, more_changes, later_changes}
 use Rattle.adf_format.proofs.HeapLaws.{in_range}
 use Rattle.adf_format.proofs.CountLaws.{none_holds}
 use Rattle.file_heap.specs.Heap.{ChangesOnly}
@@ -24,11 +25,11 @@ pub widened : (xs ys : List Extent) (old new : Option (List ℕ)) → IsWithin x
 widened xs ys None None within c = tt
 widened xs ys None (Some new) within c = c
 widened xs ys (Some old) None within c = c
-widened xs ys (Some old) (Some new) within c = record { longer = c.longer; others = λ b none. c.others b (within b none) }
+widened xs ys (Some old) (Some new) within c = more_changes xs ys old new within c
 
 pub changes_none : (xs : List Extent) (image : Option (List ℕ)) → Both (ChangesOnly xs) image image
 changes_none xs None = tt
-changes_none xs (Some bytes) = record { longer = omega arith; others = λ b none. refl }
+changes_none xs (Some bytes) = still_changes xs bytes
 
 pub changes_then : (xs : List Extent) (a b c : Option (List ℕ)) → Both (ChangesOnly xs) a b → Both (ChangesOnly xs) b c → Both (ChangesOnly xs) a c
 changes_then xs None None None v w = tt
@@ -36,10 +37,7 @@ changes_then xs None None (Some c) v w = w
 changes_then xs None (Some b) c v w = absurd v
 changes_then xs (Some a) None c v w = absurd v
 changes_then xs (Some a) (Some b) None v w = w
-changes_then xs (Some a) (Some b) (Some c) v w = record {
-  longer = (let p = v.longer in let q = w.longer in omega (arith, p, q));
-  others = λ k none. w.others k none ∙ v.others k none;
-}
+changes_then xs (Some a) (Some b) (Some c) v w = later_changes xs a b c v w
 
 -- ---- ranges in ranges
 

@@ -6,11 +6,13 @@ use Rattle.std.proofs.lemmas.Option.{slice_get-get_or}
 use Rattle.std.proofs.lemmas.List.{append-nil, length-take, length-drop}
 use Rattle.cg_io.specs.Blocks.{Both, Wrote, KeepsOutside}
 use Rattle.cg_io.specs.Device.{bytes_at, GivesAt}
+use Rattle.adf_format.specs.declared.types.ExtentKind.{ExtentKind}
 use Rattle.adf_format.specs.Fields.{field}
 use Rattle.adf_format.specs.Pointer.{pointer}
 use Rattle.adf_format.specs.Parts.{HasPointer}
 use Rattle.adf_format.specs.Spelled.{pointer_to}
 use Rattle.adf_format.specs.Changes.{Writes}
+use Rattle.adf_format.proofs.ReachedLaws.{reached_by}
 use Rattle.adf_format.proofs.FieldLaws.{same_field, field_whole}
 use Rattle.adf_format.specs.Tiles.{cover, holds_byte}
 use Rattle.adf_format.proofs.CountLaws.{none_holds}
@@ -58,13 +60,17 @@ out_of_range at n b none = by_place (leb_tells at b)
     by_place (inr h) = inl h.1
 
 changed : (at n : ℕ) (old new : List ℕ) → KeepsOutside at n old new → ChangesOnly (range at n ∷ []) old new
-changed at n old new k = record { longer = k.longer; others = λ b none. k.outside b (out_of_range at n b none) }
+changed at n old new k = record {
+  longer = k.longer;
+  others = λ b none. k.outside b (out_of_range at n b none);
+  grows = λ b past here. let to = k.grows b past here in reached_by ExtentKind.FreeChunk at n b to.0 to.1;
+}
 
 pub all_changed : (at : ℕ) (from : List ℕ) (old new : Option (List ℕ)) → Both (Wrote at from) old new → Both (ChangesOnly (range at (length from) ∷ [])) old new
 all_changed at from None None w = tt
 all_changed at from None (Some new) w = w
 all_changed at from (Some old) None w = w
-all_changed at from (Some old) (Some new) w = changed at (length from) old new (record { longer = w.longer; outside = w.outside })
+all_changed at from (Some old) (Some new) w = changed at (length from) old new (record { longer = w.longer; outside = w.outside; grows = w.grows })
 
 pub refused_changed : (at n : ℕ) (old new : Option (List ℕ)) → Both (KeepsOutside at n) old new → Both (ChangesOnly (range at n ∷ [])) old new
 refused_changed at n None None k = tt

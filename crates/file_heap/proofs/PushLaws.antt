@@ -1,5 +1,5 @@
 -- A free chunk is put in front of a list, and a filler is filled.
-use Rattle.std.proofs.Common.{◌≡◌, inl, inr, ℕ, zero, suc, refl, sym, ◌∙◌, ap, subst, arith, List, [], ◌∷◌, ◌++◌, length, length-append, replicate, take, get_or, filter, ◌+◌, ◌-◌, ◌<◌, ◌≤◌, ◌^◌, true, false}
+use Rattle.std.proofs.Common.{◌≡◌, inl, inr, ℕ, zero, suc, refl, sym, ◌∙◌, ap, subst, arith, List, [], ◌∷◌, ◌++◌, length, length-append, min, replicate, take, get_or, filter, ◌+◌, ◌-◌, ◌<◌, ◌≤◌, ◌^◌, true, false}
 use Rattle.std.proofs.lemmas.Bool.Decides.{nat_tests}
 use Rattle.std.specs.Prelude.{Option, Some, None, codes, slice_get, slice_set, nat_lt}
 use Rattle.cg_io.specs.Blocks.{Both}
@@ -18,7 +18,7 @@ use Rattle.adf_format.specs.LaysOut.{ThreadsFreeChunks, first_place, last_place,
 use Rattle.adf_format.specs.Changes.{Writes}
 use Rattle.adf_format.specs.HeapRule.{new_gap}
 use Rattle.adf_format.proofs.HeapLaws.{in_range}
-use Rattle.std.proofs.lemmas.List.{length-replicate}
+use Rattle.std.proofs.lemmas.List.{length-take, length-replicate}
 use Rattle.std.proofs.lemmas.Option.{get_or_from_slice_get}
 use Rattle.adf_format.proofs.CountLaws.{none_holds}
 use Rattle.adf_format.proofs.HexLaws.{pointer-pointer_text}
@@ -207,8 +207,25 @@ gap_within place n b none = (none_holds free_table (range place n ∷ []) b none
 pub gap_changes : (place n : ℕ) (entry read new : Option (List ℕ)) → read ≡ entry → Both (ChangesOnly (range place n ∷ [])) read new → Both (ChangesOnly (free_table ∷ range place n ∷ [])) entry new
 gap_changes place n entry read new e c = subst (λ image. Both (ChangesOnly (free_table ∷ range place n ∷ [])) image new) e (widened (range place n ∷ []) (free_table ∷ range place n ∷ []) read new (gap_within place n) c)
 
+-- a filler of so many bytes
+pub fill_changes : (place n : ℕ) (text : List ℕ) (old new : Option (List ℕ)) → n < 32 → text ≡ take {A = ℕ} n (replicate 32 122) → Both (ChangesOnly (range place (length text) ∷ [])) old new
+    → Both (ChangesOnly (free_table ∷ range place n ∷ [])) old new
+fill_changes place n text old new short is c = gap_changes place n old old new refl (subst (λ k. Both (ChangesOnly (range place k ∷ [])) old new) long c)
+  where
+    long : length text ≡ n
+    long =
+        let many : length {A = ℕ} (replicate 32 122) ≡ 32 = length-replicate {A = ℕ} 32 122 in
+        let few : length {A = ℕ} (take n (replicate 32 122)) ≡ min n (length {A = ℕ} (replicate 32 122)) = length-take n (replicate 32 122) in
+        ap length is ∙ omega (arith, short, few, many)
+
 pub link_then : (place n k : ℕ) (a b c : Option (List ℕ)) → k < 3 → Both (ChangesOnly (free_table ∷ range place n ∷ [])) a b → Both (ChangesOnly (range (list_first FREE_TABLE_PLACE k).offset 12 ∷ [])) b c → Both (ChangesOnly (free_table ∷ range place n ∷ [])) a c
 link_then place n k a b c few v w = changes_then (free_table ∷ range place n ∷ []) a b c v (widened (range (list_first FREE_TABLE_PLACE k).offset 12 ∷ []) (free_table ∷ range place n ∷ []) b c (one_within (list_first FREE_TABLE_PLACE k).offset 12 free_table (range place n ∷ []) (omega arith) (omega (arith, few))) w)
+
+-- a chunk, and the pointer to it as the first of its list
+pub chunk_changes : (place n k at : ℕ) (entry read whole linked : Option (List ℕ)) → k < 3 → at ≡ (list_first FREE_TABLE_PLACE k).offset → read ≡ entry → Both (ChangesOnly (range place n ∷ [])) read whole
+    → Both (ChangesOnly (range at 12 ∷ [])) whole linked → Both (ChangesOnly (free_table ∷ range place n ∷ [])) entry linked
+chunk_changes place n k at entry read whole linked few e same v w =
+    link_then place n k entry whole linked few (gap_changes place n entry read whole same v) (subst (λ a. Both (ChangesOnly (range a 12 ∷ [])) whole linked) e w)
 
 -- ---- a filler
 

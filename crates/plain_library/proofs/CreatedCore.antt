@@ -203,8 +203,11 @@ module _ (old new : Core) (k : ℕ) (row : Row) (plan : Plan) (name label : List
     made = λ place e. made place e ∙ ap Ok (sym tree);
     placed = plans.placed ∙ ap Ok same_place;
     limit = limit;
-    tail = record { longer = (let n = new_long in let g = grown_long in omega (arith, n, g)); tail = tail_stays };
-    reach = (let n = new_long in let g = grown_long in omega (arith, n, g, end));
+    tail = record {
+      longer = (let n = new_long in let g = grown_long in omega (arith, n, g));
+      grown = (let n = new_long in let g = grown_long in omega (arith, n, g, end));
+      tail = tail_stays;
+    };
   }
     where
       front : (byte : ℕ) → new.end < byte → byte < length grown → get_or new.image.items byte 0 ≡ get_or grown byte 0

@@ -15,6 +15,7 @@ use Rattle.adf_model.specs.Steps.{NoneFell, Edited, StopsAt, Refused, MayEdit, H
 use Rattle.adf_model.specs.Causes.{EntersFiles, RefusalLeaves, IsIndex, ChangedAnyway}
 use Rattle.adf_model.specs.Runs.{EditsTold, IsToldFor}
 use Rattle.session.specs.Calls.{PlainStops, PlainStep}
+use Rattle.adf_model.proofs.StepTests.{step_tests}
 use Rattle.adf_model.proofs.StandingLaws.{standings_with, names_with}
 use Rattle.adf_model.proofs.GroupStands.{told_group, told_names}
 use Rattle.plain_library.proofs.Entries.{passed_files, refused_files, lacks_memory, tree_refused}
@@ -50,7 +51,7 @@ module _ (files : Files) (before : Devices) (parent : NodeId) (name label : List
 
     -- the edit on the tree of the file
     on_tree : file_step opened.writable opened.tree edit ≡ apply opened.tree edit
-    on_tree = passes (is_live opened.tree parent.serial) (is_link_in (node_at opened.tree parent.serial)) opened.writable (apply opened.tree edit) (is_there opened parent.serial (subst (λ (s : Slot). first_refusal (entry_tests s parent.serial) ≡ None) enters.live enters.entered))
+    on_tree = step_tests opened.writable opened.tree edit ∙ passes (is_live opened.tree parent.serial) (is_link_in (node_at opened.tree parent.serial)) opened.writable (apply opened.tree edit) (is_there opened parent.serial (subst (λ (s : Slot). first_refusal (entry_tests s parent.serial) ≡ None) enters.live enters.entered))
         (plain opened here parent.serial) enters.writable
 
     no_link : file_step opened.writable opened.tree edit ≢ Err LinkMissing

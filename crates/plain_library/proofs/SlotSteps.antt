@@ -131,7 +131,7 @@ module _ (old new : Core) (parent : NodeId) (name label : List ℕ) (within : pa
         laid_out = core.laid_out;
         tail = subst (λ (l : List ℕ). KeepsTail new.end l new.image.items) (sym same) creates.tail;
         number = torn.0;
-        within = changed_before_end old.image.items new.image.items new.end torn.0 torn.1 torn.2 creates.reach creates.tail.tail;
+        within = changed_before_end old.image.items new.image.items new.end torn.0 torn.1 torn.2 creates.tail.grown creates.tail.tail;
         torn = subst (λ (l : List ℕ). TornAt torn.0 l new.image.items other) (sym same) torn.3;
       }
 

@@ -34,7 +34,6 @@ pub record Creates (old : Core) (parent : ℕ) (name label : List ℕ) (new : Co
   pub placed : place_child old.limit (core_tree old) parent (core_placement old) ≡ Ok (core_placement new)
   pub limit : new.limit ≡ old.limit
   pub tail : KeepsTail new.end old.image.items new.image.items
-  pub reach : length new.image.items ≤ max (length old.image.items) (whole_length new.end)
 
 -- all that is told of an open file stays
 pub record Stays (old new : Core) : Type 0 where

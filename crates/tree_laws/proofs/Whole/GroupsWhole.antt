@@ -138,6 +138,7 @@ module _ (limit : ℕ) (tree : Tree) (p q r : Placement) (done : List (Edit × T
 tail_goes_on : (end farther : ℕ) (a b c : List ℕ) → end ≤ farther → KeepsTail end a b → KeepsTail farther b c → KeepsTail farther a c
 tail_goes_on end farther a b c le x y = record {
   longer = (let m = x.longer in let n = y.longer in omega (arith, m, n));
+  grown = (let m = x.grown in let n = y.grown in omega (arith, m, n, le));
   tail = λ k past. y.tail k past ∙ x.tail k (omega (arith, le, past));
 }
 
@@ -154,7 +155,7 @@ whole_group_begins limit writable tree p image l = record {
         ap (λ (n : NodeParts). field image (n.header + 130 + most_dims tree [] k * dimension_digits tree.wide) (12 * dimension_digits tree.wide - most_dims tree [] k * dimension_digits tree.wide)) (same_Some to from (sym last ∙ at));
     unused = λ k from to t at last has still. refl;
   };
-  tail = record { longer = le_refl (length image); tail = λ k past. refl };
+  tail = record { longer = le_refl (length image); grown = omega arith; tail = λ k past. refl };
   places = record {
     parts = λ e live free. live;
     headers = λ k from to at last. ap (λ (n : NodeParts). n.header) (same_Some to from (sym last ∙ at));

@@ -10,6 +10,7 @@ use Rattle.adf_format.specs.Tree.{Tree}
 use Rattle.adf_format.specs.Tiles.{cover}
 use Rattle.adf_format.specs.Placement.{Placement, Heap, extent, live_extents, head_extents}
 use Rattle.adf_format.specs.HeapRule.{heap_give}
+use Rattle.adf_format.proofs.ReachedLaws.{still_changes, more_changes, later_changes}
 use Rattle.adf_format.proofs.HeapLaws.{in_range, join_range}
 use Rattle.adf_format.proofs.HeapSteps.{cover-append}
 use Rattle.adf_model.specs.NodeData.{grown_range}
@@ -47,7 +48,7 @@ ranges_in_room ranges x y k = let a = cover-append x.gaps (grown_range x y ∷ r
 pub mid_begins : MidBegins
 mid_begins ranges tree p image l = record {
   holds = from_layout image tree p l;
-  changes = record { longer = le_refl (length image); others = λ b none. refl };
+  changes = still_changes (heap_fields ++ room ranges p.heap p.heap) image;
   within = λ b some. let a = cover-append p.heap.gaps (grown_range p.heap p.heap ∷ ranges) b in omega (arith, a, some);
   grows = le_refl p.heap.end;
 }
@@ -55,16 +56,16 @@ mid_begins ranges tree p image l = record {
 pub mid_goes_on : MidGoesOn
 mid_goes_on ranges p old now after q r taken kept b c written u held rise changes inside owned = record {
   holds = held;
-  changes = record {
-    longer = (let x = u.changes.longer in let y = changes.longer in omega (arith, x, y));
-    others = λ k none.
-        let s = cover-append heap_fields (room ranges p.heap r.heap) k in
-        let grown = room_grows ranges p.heap q.heap r.heap u.grows rise k in
-        let t = cover-append heap_fields (room ranges p.heap q.heap) k in
-        let w = cover-append heap_fields written k in
-        let clear : cover written k ≡ 0 = no_more (cover written k) (λ some. let i = in_room k (inside k some) in absurd (omega (arith, i, s, none))) in
-        changes.others k (omega (arith, w, s, none, clear)) ∙ u.changes.others k (omega (arith, t, s, none, grown));
-  };
+  changes = later_changes (heap_fields ++ room ranges p.heap r.heap) old b c
+      (more_changes (heap_fields ++ room ranges p.heap q.heap) (heap_fields ++ room ranges p.heap r.heap) old b (λ k none.
+      let s = cover-append heap_fields (room ranges p.heap r.heap) k in
+      let t = cover-append heap_fields (room ranges p.heap q.heap) k in
+      let grown = room_grows ranges p.heap q.heap r.heap u.grows rise k in omega (arith, s, t, none, grown)) u.changes)
+      (more_changes (heap_fields ++ written) (heap_fields ++ room ranges p.heap r.heap) b c (λ k none.
+      let s = cover-append heap_fields (room ranges p.heap r.heap) k in
+      let w = cover-append heap_fields written k in
+      let clear : cover written k ≡ 0 = no_more (cover written k) (λ some. let i = in_room k (inside k some) in absurd (omega (arith, i, s, none))) in
+      omega (arith, w, s, none, clear)) changes);
   within = λ k some. by_owner k (owned k some);
   grows = (let g = u.grows in omega (arith, g, rise));
 }
@@ -139,7 +140,7 @@ mid_takes ranges p old now q taken b c heap kind place n u changes tiles order e
 
 -- a step that leaves the heap's fields
 beside_fields : (written : List Extent) (b c : List ℕ) → ChangesOnly written b c → ChangesOnly (heap_fields ++ written) b c
-beside_fields written b c x = record { longer = x.longer; others = λ k none. x.others k (let s = cover-append heap_fields written k in omega (arith, s, none)) }
+beside_fields written b c x = more_changes written (heap_fields ++ written) b c (λ k none. let s = cover-append heap_fields written k in omega (arith, s, none)) x
 
 pub mid_switches : MidSwitches
 mid_switches ranges p old now after q r taken kept written b c u held heap changes inside owned =

@@ -15,6 +15,7 @@ use Rattle.adf_format.specs.Tree.{Tree, Node, IsTree, is_among, children_of, chi
 use Rattle.adf_format.specs.Placement.{Placement, NodeParts, TablePart, extent, parts_of, table_extents}
 use Rattle.adf_format.specs.LaysOut.{LaysOut, HasTable, entry_count}
 use Rattle.adf_format.specs.HeapRule.{Placed, place_edit}
+use Rattle.adf_format.proofs.ReachedLaws.{more_changes, later_changes}
 use Rattle.adf_format.proofs.HeapSteps.{cover-append}
 use Rattle.adf_model.specs.declared.tree.Edit.{Edit}
 use Rattle.adf_model.specs.declared.tree.NodeId.{NodeId}
@@ -43,10 +44,9 @@ use Rattle.tree_laws.proofs.Whole.Joins.{fields_spared, entry_spared, list_has_h
 
 -- changes one after another
 pub only_joined : (xs ys : List Extent) (a b c : List ℕ) → ChangesOnly xs a b → ChangesOnly ys b c → ChangesOnly (xs ++ ys) a c
-only_joined xs ys a b c v w = record {
-  longer = (let x = v.longer in let y = w.longer in omega (arith, x, y));
-  others = λ k none. let s = cover-append xs ys k in w.others k (omega (arith, s, none)) ∙ v.others k (omega (arith, s, none));
-}
+only_joined xs ys a b c v w = later_changes (xs ++ ys) a b c
+    (more_changes xs (xs ++ ys) a b (λ k none. let s = cover-append xs ys k in omega (arith, s, none)) v)
+    (more_changes ys (xs ++ ys) b c (λ k none. let s = cover-append xs ys k in omega (arith, s, none)) w)
 
 pub table_in_list : (from : NodeParts) (t : TablePart) → from.table ≡ Some t → Contains (table_extents from.table) (list_part t)
 table_in_list from t has = subst (λ (o : Option TablePart). Contains (table_extents o) (list_part t)) (sym has) (0, omega arith, refl)

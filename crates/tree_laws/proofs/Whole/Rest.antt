@@ -1,5 +1,6 @@
 -- What is written in spared ranges, in gaps and behind the end leaves all else.
-use Rattle.std.proofs.Common.{◌≡◌, ◌⊎◌, inl, inr, ℕ, refl, sym, ◌∙◌, ap, subst, arith, List, [], ◌∷◌, ◌++◌, length, ◌+◌, ◌-◌, ◌*◌, ◌<◌, ◌≤◌}
+use Rattle.std.proofs.Common.{◌≡◌, ◌⊎◌, inl, inr, ℕ, refl, sym, ◌∙◌, ap, subst, arith, List, [], ◌∷◌, ◌++◌, length, ◌+◌, ◌-◌, ◌*◌, ◌/◌, max, ◌<◌, ◌≤◌}
+use Rattle.std.proofs.lemmas.Bool.{cases_lt}
 use Rattle.std.proofs.lemmas.Bool.Decides.{leb_tells, eqb_tells}
 use Rattle.std.specs.Prelude.{Option, Some, slice_get}
 use Rattle.std.specs.List.{Contains}
@@ -7,7 +8,7 @@ use Rattle.adf_format.specs.declared.types.Extent.{Extent}
 use Rattle.adf_format.specs.declared.types.ExtentKind.{ExtentKind}
 use Rattle.adf_format.specs.Fields.{field}
 use Rattle.adf_format.specs.Changes.{heap_fields}
-use Rattle.adf_format.specs.HeapBytes.{ChangesOnly}
+use Rattle.adf_format.specs.HeapBytes.{IsReached, ChangesOnly}
 use Rattle.adf_format.specs.Tree.{Tree}
 use Rattle.adf_format.specs.Tiles.{cover, end_of}
 use Rattle.adf_format.specs.Parts.{node_length, table_length, dimension_digits}
@@ -193,25 +194,46 @@ module _ (limit : ℕ) (tree : Tree) (p q : Placement) (done : List (Edit × Tre
           let one = alone b in
           free (subst (Contains touched) (one_extent (node_extents tree.wide n.1) b (omega (arith, live_once, one)) s.part e (subst (λ (x : NodeParts). Contains (node_extents tree.wide x) s.part) is s.own) s.low s.high n.3 low high) s.open'))
 
+-- nothing that is written lies behind the end, and the file does not grow past the end's block
+module _ (limit : ℕ) (tree : Tree) (p q : Placement) (done : List (Edit × Tree)) (ranges : List Extent) (old new : List ℕ) (l : LaysOut old tree p) (rise : p.heap.end ≤ q.heap.end)
+    (c : ChangesOnly (heap_fields ++ room ranges p.heap q.heap) old new) (own : AreSpared ranges (group_touched limit tree p done) tree done p q) (keeps : KeepsPlaces (group_touched limit tree p done) tree.wide p q) where
+  behind : (b : ℕ) → cover (head_extents ++ live_extents tree.wide p ++ p.heap.gaps) b ≡ 0 → (0 < cover ranges b) ⊎ (cover ranges b ≤ 0) → cover ranges b ≡ 0
+  behind b none (inr le) = omega (arith, le)
+  behind b none (inl some) = absurd (
+      let s = own b some in
+      let held = contains_cover (node_extents tree.wide s.from) s.part b s.own s.low s.high in
+      let live = one_of tree.wide p.parts s.serial b s.from s.stands in
+      let all = cover_all tree.wide p b in omega (arith, held, live, none, all))
+
+  none_behind : (b : ℕ) → q.heap.end < b → cover (heap_fields ++ room ranges p.heap q.heap) b ≡ 0
+  none_behind b past =
+      let a = all_of limit tree p q done ranges old new l rise c own keeps b in
+      let z = range_out (p.heap.end + 1) (q.heap.end - p.heap.end) b (inr (omega (arith, past, rise))) in
+      let none = l.tiles.inside b (omega (arith, past, rise)) in
+      let all = cover_all tree.wide p b in
+      let f = fields_in_head limit tree p q done ranges old new l rise c own keeps b in
+      let clear = behind b none (less_or 0 (cover ranges b)) in omega (arith, a, z, none, all, f, clear)
+
+  abbrev most : ℕ
+  most = max (length old) ((q.heap.end / 4096 + 1) * 4096)
+
+  at_most : (most < length new) ⊎ (length new ≤ most) → length new ≤ most
+  at_most (inr le) = le
+  at_most (inl lt) = absurd (by_owner (cases_lt q.heap.end at.byte))
+    where
+      at : IsReached (heap_fields ++ room ranges p.heap q.heap) (length new - 1)
+      at = c.grows (length new - 1) (omega (arith, lt)) (omega (arith, lt))
+
+      by_owner : (q.heap.end < at.byte) ⊎ (at.byte ≤ q.heap.end) → ⊥
+      by_owner (inl past) = let none = none_behind at.byte past in let own = at.own in omega (arith, none, own)
+      by_owner (inr le) = let block = at.block in omega (arith, le, block, lt)
+
 pub rest_is_left : RestIsLeft
 rest_is_left limit tree p q done ranges old new l rise c own keeps = (
   rest_kept limit tree p q done ranges old new l rise c own keeps,
   record {
     longer = c.longer;
-    tail = λ b past. c.others b (
-        let a = all_of limit tree p q done ranges old new l rise c own keeps b in
-        let z = range_out (p.heap.end + 1) (q.heap.end - p.heap.end) b (inr (omega (arith, past, rise))) in
-        let none = l.tiles.inside b (omega (arith, past, rise)) in
-        let all = cover_all tree.wide p b in
-        let f = fields_in_head limit tree p q done ranges old new l rise c own keeps b in
-        let clear = behind b none (less_or 0 (cover ranges b)) in omega (arith, a, z, none, all, f, clear));
+    grown = at_most limit tree p q done ranges old new l rise c own keeps (cases_lt (max (length old) ((q.heap.end / 4096 + 1) * 4096)) (length new));
+    tail = λ b past. c.others b (none_behind limit tree p q done ranges old new l rise c own keeps b past);
   },
 )
-  where
-    behind : (b : ℕ) → cover (head_extents ++ live_extents tree.wide p ++ p.heap.gaps) b ≡ 0 → (0 < cover ranges b) ⊎ (cover ranges b ≤ 0) → cover ranges b ≡ 0
-    behind b none (inr le) = omega (arith, le)
-    behind b none (inl some) = absurd (
-        let s = own b some in
-        let held = contains_cover (node_extents tree.wide s.from) s.part b s.own s.low s.high in
-        let live = one_of tree.wide p.parts s.serial b s.from s.stands in
-        let all = cover_all tree.wide p b in omega (arith, held, live, none, all))

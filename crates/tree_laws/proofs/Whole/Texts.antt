@@ -14,6 +14,7 @@ use Rattle.adf_format.specs.Parts.{node_length, table_length}
 use Rattle.adf_format.specs.Placement.{Placement, NodeParts, TablePart, parts_of, extent, table_extents}
 use Rattle.adf_format.specs.LaysOut.{LaysOut, HasTable}
 use Rattle.adf_format.specs.HeapRule.{parts_or_none}
+use Rattle.adf_format.proofs.ReachedLaws.{more_changes, later_changes}
 use Rattle.adf_model.specs.declared.error.AdfError.{AdfError}
 use Rattle.adf_model.specs.declared.tree.Edit.{Edit}
 use Rattle.adf_model.specs.declared.tree.NodeId.{NodeId}
@@ -57,10 +58,9 @@ least true = omega arith
 
 -- two texts change their ranges alone
 pub puts_two : {k m : ExtentKind} {a n b r : ℕ} {s u old middle new : List ℕ} → Puts k a n s old middle → Puts m b r u middle new → ChangesOnly (extent k a n ∷ extent m b r ∷ []) old new
-puts_two v w = record {
-  longer = (let x = v.only.longer in let y = w.only.longer in omega (arith, x, y));
-  others = λ c none. w.only.others c (omega (arith, none)) ∙ v.only.others c (omega (arith, none));
-}
+puts_two {k = k} {m = m} {a = a} {n = n} {b = b} {r = r} {old = old} {middle = middle} {new = new} v w = later_changes (extent k a n ∷ extent m b r ∷ []) old middle new
+    (more_changes (extent k a n ∷ []) (extent k a n ∷ extent m b r ∷ []) old middle (λ c none. omega (arith, none)) v.only)
+    (more_changes (extent m b r ∷ []) (extent k a n ∷ extent m b r ∷ []) middle new (λ c none. omega (arith, none)) w.only)
 
 pub label_is_whole : LabelIsWhole
 label_is_whole limit writable old new tree after p node label its l made stands w =

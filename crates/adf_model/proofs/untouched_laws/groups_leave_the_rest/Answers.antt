@@ -13,6 +13,9 @@ returns-clause-dims c before now number opened group old new serial from to h he
 pub returns-clause-tail : goal.returns-clause-tail
 returns-clause-tail c before now number opened group old new b h held held_now past = (h old new held held_now).1.tail b past
 
+pub returns-clause-grown : goal.returns-clause-grown
+returns-clause-grown c before now number opened group old new h held held_now = (h old new held held_now).1.grown
+
 pub returns-clause-past_rank : goal.returns-clause-past_rank
 returns-clause-past_rank c before now number opened group old new h held held_now = (h old new held held_now).0.past_rank
 
