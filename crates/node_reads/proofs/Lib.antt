@@ -1,0 +1,3 @@
+pub mod HeaderLaws
+pub mod EntryLaws
+pub mod ReadLaws
