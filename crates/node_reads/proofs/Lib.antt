@@ -1,3 +1,4 @@
 pub mod HeaderLaws
 pub mod EntryLaws
 pub mod ReadLaws
+pub mod LaidOut

@@ -1,3 +1,4 @@
 pub mod Reads
 pub mod Headers
 pub mod Entries
+pub mod LaidOut

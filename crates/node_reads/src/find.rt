@@ -1,7 +1,7 @@
 //! The first entry of a table that is wanted.
 
 ghost use Rattle.std.specs.Prelude.{◌≡◌, ◌^◌, ◌+◌, ◌-◌, ◌*◌, ◌/◌, ◌≤◌, ◌<◌, length, IfOk, IfSome};
-ghost use Rattle.adf_format.specs.Fields.{field};
+ghost use Rattle.adf_format.specs.Fields.{field, text_field};
 ghost use Rattle.cg_io.specs.Blocks.{ReadsFew};
 ghost use Rattle.cg_io.specs.Answers.{AnswersRead, HasRisen};
 ghost use Rattle.node_reads.specs.Reads.{IsFirst};
@@ -33,6 +33,16 @@ impl Wanted {
             Wanted::Place(place) => points_to(entry, ENTRY_CHILD, *place),
         }
     }
+}
+
+/// A name as a name field, with spaces behind it.
+pub fn name_field(name: &[u8]) -> [u8; 32]
+    requires { length name.now ≤ 32 }
+    ensures { result ≡ text_field 32 name.now }
+{
+    let mut field = [b' '; 32];
+    field[..name.len()].copy_from_slice(name);
+    field
 }
 
 // The first position from one up to another whose entry is wanted, where the piece begins with the entry of the one.

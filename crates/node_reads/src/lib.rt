@@ -14,6 +14,6 @@ mod places;
 
 pub use chunks::{ChunkTable, ListedChunk, chunk_at, chunk_in, read_chunk_head, read_chunks};
 pub use entries::{ListedChild, child_at, child_in, read_children};
-pub use find::{Wanted, find_entry};
+pub use find::{Wanted, find_entry, name_field};
 pub use header::{ChildTable, child_table, read_header, read_named_header};
-pub use laws::fields_are_read;
+pub use laws::{fields_are_read, nodes_are_read};
