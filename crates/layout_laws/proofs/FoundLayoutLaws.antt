@@ -20,8 +20,8 @@ use Rattle.adf_format.proofs.PathLaws.{is_walked}
 use Rattle.adf_format.proofs.RowLaws.{holds_tells}
 use Rattle.adf_format.proofs.TreeLaws.{node_at-tree_of}
 use Rattle.adf_model.proofs.Basics.{not_true, same_Some, not_there}
-use Rattle.adf_model.proofs.WalkNames.{walk_sound}
-use Rattle.adf_model.proofs.WalkNodes.{end_inside}
+use Rattle.adf_model.proofs.Walks.WalkNames.{walk_sound}
+use Rattle.adf_model.proofs.Walks.WalkNodes.{end_inside}
 use Rattle.layout_laws.specs.FoundLayout.{parts_at, placement_of, FillGaps}
 use Rattle.layout_laws.proofs.FoundLists.{header_found, threads_found}
 use Rattle.layout_laws.proofs.FoundNodes.{node_held, parts_found}

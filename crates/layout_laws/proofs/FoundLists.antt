@@ -19,7 +19,7 @@ use Rattle.adf_format.proofs.FrameLaws.{field_of_first}
 use Rattle.adf_format.proofs.RowLaws.{holds_tells, kept_index}
 use Rattle.adf_format.proofs.WalkLaws.{all_kept}
 use Rattle.adf_model.proofs.Basics.{and_parts, not_true, or_parts, same_Some, not_there}
-use Rattle.adf_model.proofs.WalkNodes.{Kept}
+use Rattle.adf_model.proofs.Walks.WalkNodes.{Kept}
 use Rattle.layout_laws.proofs.Frames.{frame_in}
 use Rattle.layout_laws.proofs.HeaderRead.{blank_here, beq_tells}
 use Rattle.layout_laws.proofs.HeadRules.{size_row, last_rows, field_row, pair_row, last_some}

@@ -23,9 +23,9 @@ use Rattle.adf_format.proofs.RowLaws.{kept_index, padded-trimmed}
 use Rattle.adf_format.proofs.TreeLaws.{number_of-path, number_in, at_in, node_at-tree_of, given_at}
 use Rattle.adf_format.proofs.WalkLaws.{all_kept}
 use Rattle.adf_model.proofs.Basics.{and_parts, not_true, same_Some, equal}
-use Rattle.adf_model.proofs.WalkNodes.{Kept, visit_kept, visit_named, end_inside}
-use Rattle.adf_model.proofs.WalkRows.{Passed, walk_passes}
-use Rattle.adf_model.proofs.WalkTree.{child_in}
+use Rattle.adf_model.proofs.Walks.WalkNodes.{Kept, visit_kept, visit_named, end_inside}
+use Rattle.adf_model.proofs.Walks.WalkRows.{Passed, walk_passes}
+use Rattle.adf_model.proofs.Walks.WalkTree.{child_in}
 use Rattle.layout_laws.specs.FoundLayout.{parts_at, placement_of, table_part, chunk_part, chunk_table_part}
 use Rattle.layout_laws.proofs.Frames.{ChunkTableRead, ChunkRead, Chunk, table_spelled, chunk_table_spelled, chunks_spelled}
 use Rattle.layout_laws.proofs.HeaderRead.{header_says, header_read}

@@ -12,10 +12,10 @@ use Rattle.adf_format.specs.Verdict.{NodePlace, ListsNodes, IsLaidOutAs}
 use Rattle.adf_format.proofs.ClosureLaws.{IsIn}
 use Rattle.adf_format.proofs.PathLaws.{IsWalked, is_walked, child_of}
 use Rattle.adf_format.proofs.TreeLaws.{number_of-path, number_in, at_in, node_at-tree_of}
-use Rattle.adf_model.proofs.AncestorLemmas.{lineage_root}
+use Rattle.adf_model.proofs.Trees.AncestorLemmas.{lineage_root}
 use Rattle.adf_model.proofs.Basics.{same_Some, not_there}
-use Rattle.adf_model.proofs.SubtreeLemmas.{lineage_child}
-use Rattle.adf_model.proofs.WalkNames.{walk_sound}
+use Rattle.adf_model.proofs.Trees.SubtreeLemmas.{lineage_child}
+use Rattle.adf_model.proofs.Walks.WalkNames.{walk_sound}
 use Rattle.layout_laws.specs.FoundLayout.{parts_at, placement_of, FillGaps, ListsVisits}
 use Rattle.layout_laws.proofs.FoundLayoutLaws.{laid_out}
 use Rattle.layout_laws.proofs.FoundNodes.{parts_found, child_found, child_listed}

@@ -10,7 +10,7 @@ use Rattle.adf_format.specs.FirstFault.{fits, has_room, table_rows, chunk_table_
 use Rattle.adf_format.proofs.FieldLaws.{inner_field}
 use Rattle.adf_format.proofs.RowLaws.{holds_tells, kept_index}
 use Rattle.adf_model.proofs.Basics.{and_parts}
-use Rattle.adf_model.proofs.WalkNodes.{Kept}
+use Rattle.adf_model.proofs.Walks.WalkNodes.{Kept}
 use Rattle.layout_laws.proofs.Rows.{kept-append, kept_counted, both, le_of, of_le, holds_of, place_tells, points_place, points_to, pointer_to_of, pointer_to_tells, fits_of, fits_tells}
 use Rattle.adf_format.proofs.NumberLaws.{left_part, right_part}
 

@@ -20,7 +20,7 @@ use Rattle.adf_format.proofs.LayoutLaws.{unused_byte}
 use Rattle.adf_format.proofs.SameLayout.{end_recorded, wide_recorded}
 use Rattle.adf_format.proofs.WalkLaws.{total_length-append}
 use Rattle.adf_model.proofs.Basics.{not_there, or_right, false_of}
-use Rattle.adf_model.proofs.WalkNodes.{Kept}
+use Rattle.adf_model.proofs.Walks.WalkNodes.{Kept}
 use Rattle.layout_laws.proofs.Frames.{frame_out}
 use Rattle.layout_laws.proofs.HeadRules.{head_unbroken}
 use Rattle.layout_laws.proofs.NodesStand.{AreStanding, nodes_stand, found_sum, order_live, cover_all, at_most_once, all_long}

@@ -19,8 +19,8 @@ use Rattle.adf_format.proofs.FaultLaws.{fault_or_none}
 use Rattle.adf_format.proofs.HeapSteps.{cover-append}
 use Rattle.adf_format.proofs.WalkLaws.{all_kept}
 use Rattle.adf_model.proofs.Basics.{and_parts, or_none, equal}
-use Rattle.adf_model.proofs.WalkNodes.{Kept}
-use Rattle.adf_model.proofs.WalkRows.{walk_passes}
+use Rattle.adf_model.proofs.Walks.WalkNodes.{Kept}
+use Rattle.adf_model.proofs.Walks.WalkRows.{walk_passes}
 use Rattle.layout_laws.specs.FoundLayout.{FillGaps, placement_of}
 use Rattle.layout_laws.proofs.FoundLayoutLaws.{laid_out}
 use Rattle.layout_laws.proofs.FoundNodes.{RowsKept, rows_kept, unless_kept}

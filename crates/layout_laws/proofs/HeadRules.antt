@@ -16,7 +16,7 @@ use Rattle.adf_format.specs.Checks.{Row, row, first_broken}
 use Rattle.adf_format.specs.FirstFault.{head_rows, header_rows, free_table_rows, end_rows, is_pointer_to, is_wide, end_in, count_up}
 use Rattle.adf_format.proofs.SameLayout.{end_recorded, wide_recorded}
 use Rattle.adf_model.proofs.Basics.{or_right}
-use Rattle.adf_model.proofs.WalkNodes.{Kept}
+use Rattle.adf_model.proofs.Walks.WalkNodes.{Kept}
 use Rattle.layout_laws.proofs.Rows.{kept_none, kept-append, kept_counted, both, of_le, of_lt, holds_of, points_place, pointer_to_of}
 use Rattle.layout_laws.proofs.NodeRead.{is_nothing, beq_same}
 use Rattle.layout_laws.proofs.NodesStand.{live_fits}

@@ -14,7 +14,7 @@ use Rattle.adf_format.specs.FirstFault.{text_rows, number_rows, pointer_rows, di
 use Rattle.adf_format.proofs.FieldLaws.{length-field}
 use Rattle.adf_format.proofs.RowLaws.{holds_tells, number_tells, padded-trimmed, type_tells, kept_index, length-counted}
 use Rattle.adf_model.proofs.Basics.{and_parts}
-use Rattle.adf_model.proofs.WalkNodes.{Kept}
+use Rattle.adf_model.proofs.Walks.WalkNodes.{Kept}
 use Rattle.layout_laws.specs.FoundLayout.{table_part, chunk_part, chunk_table_part}
 use Rattle.layout_laws.proofs.HeldParts.{in_header, count_in_header, chunk_in_header, dimension_in_header}
 use Rattle.layout_laws.proofs.NodeRules.{at_counted}

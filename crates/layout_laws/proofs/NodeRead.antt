@@ -14,7 +14,7 @@ use Rattle.adf_format.specs.Names.{is_name, is_label, is_printing, begins_with_s
 use Rattle.adf_format.specs.Parts.{NodeFields, SpellsNode, HasNumber, HasPointer, dimension_digits, chunk_count_at, type_word, type_of}
 use Rattle.adf_format.specs.FirstFault.{text_rows, number_rows, pointer_rows, dimension_row, shape_rows, node_rows, type_or_mt, is_pointer_for}
 use Rattle.adf_model.proofs.Basics.{and_parts, not_true}
-use Rattle.adf_model.proofs.WalkNodes.{Kept}
+use Rattle.adf_model.proofs.Walks.WalkNodes.{Kept}
 use Rattle.layout_laws.proofs.Rows.{kept-append, kept_counted, both, holds_of}
 
 -- ---- texts

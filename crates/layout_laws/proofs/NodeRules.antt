@@ -23,7 +23,7 @@ use Rattle.adf_format.specs.Checks.{Row}
 use Rattle.adf_format.specs.FirstFault.{ChunkVisit, fits, node_rows, count_row, table_rows, chunk_table_rows, chunk_rows, data_rows, rows_unless, is_same_name, children_in, entries_in, table_in, chunk_count, chunk_in, chunks_in, chunk_visits, chunk_length, dims_in, type_or_mt, payloads_in, payload_total, agrees}
 use Rattle.adf_format.proofs.ClosureLaws.{IsIn, in_left, in_right}
 use Rattle.adf_model.proofs.Basics.{and_parts, not_true, same_Some, not_there}
-use Rattle.adf_model.proofs.WalkNodes.{Kept, payloads_long}
+use Rattle.adf_model.proofs.Walks.WalkNodes.{Kept, payloads_long}
 use Rattle.layout_laws.specs.FoundLayout.{chunk_part}
 use Rattle.layout_laws.proofs.Rows.{both, le_of, of_le, of_lt, of_equal, points_place, points_to, fits_of, room_of}
 use Rattle.layout_laws.proofs.Frames.{ChunkRead, Chunk, table_unbroken, chunk_table_unbroken, chunks_unbroken, lengths}

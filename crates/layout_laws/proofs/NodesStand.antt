@@ -25,12 +25,12 @@ use Rattle.adf_format.proofs.HeapSteps.{cover-append}
 use Rattle.adf_format.proofs.LayoutLaws.{one_of, live_parts, nodes_apart}
 use Rattle.adf_format.proofs.SameLayout.{end_recorded, wide_recorded}
 use Rattle.adf_format.proofs.WalkLaws.{node_walk_ends, total_length-append}
-use Rattle.adf_model.proofs.AncestorLemmas.{lineage_root}
+use Rattle.adf_model.proofs.Trees.AncestorLemmas.{lineage_root}
 use Rattle.adf_model.proofs.Basics.{not_true, same_Some, not_there, or_right, among_head, false_of}
-use Rattle.adf_model.proofs.DifferLemmas.{none_equal, bytes_eq_same}
-use Rattle.adf_model.proofs.SubtreeLemmas.{lineage_child}
-use Rattle.adf_model.proofs.TreeOrder.{times, listed_times}
-use Rattle.adf_model.proofs.WalkNodes.{Kept}
+use Rattle.adf_model.proofs.Trees.DifferLemmas.{none_equal, bytes_eq_same}
+use Rattle.adf_model.proofs.Trees.SubtreeLemmas.{lineage_child}
+use Rattle.adf_model.proofs.Trees.TreeOrder.{times, listed_times}
+use Rattle.adf_model.proofs.Walks.WalkNodes.{Kept}
 use Rattle.layout_laws.specs.FoundLayout.{parts_at}
 use Rattle.layout_laws.proofs.Rows.{kept_none, kept-append, kept_counted, both, points_place, points_to, room_of}
 use Rattle.layout_laws.proofs.HeldParts.{children_held, count_held, table_place, parts_held}

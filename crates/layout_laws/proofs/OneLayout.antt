@@ -18,8 +18,8 @@ use Rattle.adf_format.proofs.PathLaws.{IsWalked, is_walked, child_of}
 use Rattle.adf_format.proofs.SameLayout.{wide_recorded, format_recorded}
 use Rattle.adf_format.proofs.TreeLaws.{number_of-path, number_in}
 use Rattle.adf_model.proofs.Basics.{and_parts, same_Some, not_there}
-use Rattle.adf_model.proofs.TreeOrder.{times, listed_times}
-use Rattle.adf_model.proofs.WalkTree.{child_in}
+use Rattle.adf_model.proofs.Trees.TreeOrder.{times, listed_times}
+use Rattle.adf_model.proofs.Walks.WalkTree.{child_in}
 use Rattle.layout_laws.specs.FoundLayout.{parts_at, chunk_part}
 use Rattle.layout_laws.proofs.HeldParts.{children_held, name_held, label_held, kind_held, dims_held, parts_held}
 use Rattle.layout_laws.proofs.NodeRead.{name_again, label_again}

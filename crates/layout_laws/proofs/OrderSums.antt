@@ -6,7 +6,7 @@ use Rattle.adf_format.specs.Tree.{Tree, IsTree, tree_order, is_live, is_among, I
 use Rattle.adf_format.specs.Placement.{NodeParts}
 use Rattle.adf_format.proofs.CountLaws.{sum_below, sum_zero, sum_add}
 use Rattle.adf_model.proofs.Basics.{or_right, among_head, not_true}
-use Rattle.adf_model.proofs.TreeOrder.{times, only_live, listed_times}
+use Rattle.adf_model.proofs.Trees.TreeOrder.{times, only_live, listed_times}
 
 -- the sum of f over a list
 abbrev pub total : (ℕ → ℕ) → List ℕ → ℕ

@@ -9,7 +9,7 @@ use Rattle.adf_format.specs.Fields.{field, holds}
 use Rattle.adf_format.specs.Checks.{Row, first_broken}
 use Rattle.adf_format.specs.FirstFault.{fits, has_room, is_pointer_to}
 use Rattle.adf_model.proofs.Basics.{and_parts, equal}
-use Rattle.adf_model.proofs.WalkNodes.{Kept}
+use Rattle.adf_model.proofs.Walks.WalkNodes.{Kept}
 
 -- ---- rows
 

@@ -21,8 +21,8 @@ use Rattle.adf_format.proofs.LayoutLaws.{live_parts}
 use Rattle.adf_format.proofs.SameLayout.{end_recorded, wide_recorded}
 use Rattle.adf_format.proofs.WalkLaws.{total_length-append}
 use Rattle.adf_model.proofs.Basics.{same_Some, not_there}
-use Rattle.adf_model.proofs.Renumbered.{among_get, live_listed, at_pos, node_new, pos}
-use Rattle.adf_model.proofs.WalkRows.{Passed, walk_passes}
+use Rattle.adf_model.proofs.Trees.Renumbered.{among_get, live_listed, at_pos, node_new, pos}
+use Rattle.adf_model.proofs.Walks.WalkRows.{Passed, walk_passes}
 use Rattle.layout_laws.specs.FoundLayout.{parts_at}
 use Rattle.layout_laws.specs.NodePass.{node_rows_at}
 use Rattle.layout_laws.proofs.HeldParts.{parts_held}

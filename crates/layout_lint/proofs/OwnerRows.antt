@@ -13,7 +13,7 @@ use Rattle.adf_format.specs.Checks.{Row, row, first_broken}
 use Rattle.adf_format.specs.FirstFault.{ChunkVisit, tag_rows, count_up, has_room, is_name_field, type_or_mt, children_in, node_rows, text_rows, table_rows, chunk_table_rows, chunk_rows, rows_unless, visit_extents, table_extents_at, chunk_table_extents_at, entries_in, table_in, chunk_count, chunk_in, chunks_in, chunk_length}
 use Rattle.adf_format.proofs.WalkLaws.{all_kept, total_length-append}
 use Rattle.adf_model.proofs.Basics.{and_parts}
-use Rattle.adf_model.proofs.WalkNodes.{Kept}
+use Rattle.adf_model.proofs.Walks.WalkNodes.{Kept}
 use Rattle.layout_laws.specs.NodePass.{node_rows_at, count_row_at}
 use Rattle.layout_laws.proofs.Frames.{lengths}
 use Rattle.layout_laws.proofs.Rows.{kept_none, kept-append, both, room_of}

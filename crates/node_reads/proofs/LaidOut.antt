@@ -15,7 +15,7 @@ use Rattle.adf_format.specs.Placement.{Placement, NodeParts, TablePart, extent, 
 use Rattle.adf_format.specs.LaysOut.{LaysOut, HoldsNode, HasTable, fields_of, entry_count}
 use Rattle.adf_format.proofs.FieldLaws.{inner_field}
 use Rattle.adf_format.proofs.ClosureLaws.{IsIn}
-use Rattle.adf_model.proofs.WalkCounts.{place_small}
+use Rattle.adf_model.proofs.Walks.WalkCounts.{place_small}
 use Rattle.layout_laws.proofs.Rows.{kept_none}
 use Rattle.layout_laws.proofs.NodeRules.{header_kept}
 use Rattle.layout_laws.proofs.NodesStand.{live_fits}

@@ -11,9 +11,9 @@ use Rattle.adf_format.proofs.HexLaws.{length-hex_text}
 use Rattle.adf_format.proofs.SpelledParts.{length-pointer_text, entry_long}
 use Rattle.adf_model.specs.Selection.{written_over}
 use Rattle.adf_model.specs.Creation.{Write, write_extents, all_written, used_entries, fill_writes}
-use Rattle.adf_model.proofs.CreatedParts.{empty_long}
-use Rattle.adf_model.proofs.PartsApart.{range_out}
-use Rattle.adf_model.proofs.TableMoved.{text_long}
+use Rattle.adf_model.proofs.Creation.CreatedParts.{empty_long}
+use Rattle.adf_model.proofs.Creation.PartsApart.{range_out}
+use Rattle.adf_model.proofs.Creation.TableMoved.{text_long}
 use Rattle.plain_library.specs.declared.open_file.Table.{Table}
 use Rattle.plain_library.specs.declared.open_file.Row.{Row}
 use Rattle.plain_library.specs.declared.places.Plan.{Plan}

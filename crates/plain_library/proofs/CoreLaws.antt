@@ -8,7 +8,7 @@ use Rattle.adf_model.specs.declared.error.AdfError.{AdfError}
 use Rattle.adf_model.specs.declared.error.AdfError.TheVariants.{Memory}
 use Rattle.adf_model.specs.Tests.{Test, first_refusal}
 use Rattle.adf_model.specs.Edits.{create_tests}
-use Rattle.adf_model.proofs.CreateLaidOut.{short_label, label_of_name}
+use Rattle.adf_model.proofs.Creation.CreateLaidOut.{short_label, label_of_name}
 use Rattle.adf_model.proofs.Basics.{NoneHolds, not_true, not_false, not_le, among_head}
 use Rattle.plain_library.specs.declared.open_file.Row.{Row}
 use Rattle.plain_library.specs.declared.open_file.Core.{Core}

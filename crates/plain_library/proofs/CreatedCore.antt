@@ -19,8 +19,8 @@ use Rattle.adf_model.specs.Tests.{Test, checked, first_refusal}
 use Rattle.adf_model.specs.Edits.{IsReached, apply, create_tests, new_node, with_new}
 use Rattle.adf_model.specs.Creation.{IsCreation, Write, WritesAll, all_written, create_writes, used_entries, write_extents}
 use Rattle.adf_model.proofs.Basics.{NoneHolds, same_Some, not_there}
-use Rattle.adf_model.proofs.CreateLaidOut.{create_laid_out, create_written}
-use Rattle.adf_model.proofs.CreatedChild.{above_stay, child_depth}
+use Rattle.adf_model.proofs.Creation.CreateLaidOut.{create_laid_out, create_written}
+use Rattle.adf_model.proofs.Keeping.CreatedChild.{above_stay, child_depth}
 use Rattle.cg_io.specs.Device.{padded}
 use Rattle.plain_library.specs.declared.open_file.Table.{Table}
 use Rattle.plain_library.specs.declared.open_file.Row.{Row}

@@ -15,12 +15,12 @@ use Rattle.adf_model.specs.Steps.{NoneFell, Edited, StopsAt, Refused, MayEdit, H
 use Rattle.adf_model.specs.Causes.{EntersFiles, RefusalLeaves, IsIndex, ChangedAnyway}
 use Rattle.adf_model.specs.Runs.{EditsTold, IsToldFor}
 use Rattle.session.specs.Calls.{PlainStops, PlainStep}
-use Rattle.adf_model.proofs.StepTests.{step_tests}
-use Rattle.adf_model.proofs.StandingLaws.{standings_with, names_with}
-use Rattle.adf_model.proofs.GroupStands.{told_group, told_names}
+use Rattle.adf_model.proofs.Following.StepTests.{step_tests}
+use Rattle.adf_model.proofs.Calls.StandingLaws.{standings_with, names_with}
+use Rattle.adf_model.proofs.Calls.GroupStands.{told_group, told_names}
 use Rattle.plain_library.proofs.Entries.{passed_files, refused_files, lacks_memory, tree_refused}
 use Rattle.adf_model.proofs.Basics.{not_true, not_there, same_Some}
-use Rattle.adf_model.proofs.OneFileLaws.{in_its_file}
+use Rattle.adf_model.proofs.Following.OneFileLaws.{in_its_file}
 use Rattle.plain_library.proofs.FirstOf.{refused_by}
 use Rattle.plain_library.specs.Calls.{IsCreatedAt, CreatedAt, BrokenAt, KeepsAll, IsTreeRefusal, EntersAt, entry_tests, as_group}
 use Rattle.plain_library.proofs.Among.{OneSet, set_there, same_files, others_read, all_read, others_placed, all_placed, read_same}

@@ -5,7 +5,7 @@ use Rattle.adf_format.specs.declared.types.ExtentKind.{ExtentKind}
 use Rattle.adf_format.specs.Placement.{Heap, extent}
 use Rattle.adf_format.specs.HeapRule.{put_gap}
 use Rattle.adf_model.specs.Creation.{AllFillers, fill_all}
-use Rattle.adf_model.proofs.FilledGaps.{put_fills}
+use Rattle.adf_model.proofs.Creation.FilledGaps.{put_fills}
 use Rattle.plain_library.specs.Core.{filled}
 
 -- the end of the file stays

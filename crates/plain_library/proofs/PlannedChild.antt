@@ -14,9 +14,9 @@ use Rattle.adf_format.specs.HeapRule.{no_parts, parts_or_none, parts_at, grown_e
 use Rattle.adf_model.specs.declared.error.AdfError.{AdfError}
 use Rattle.adf_model.specs.Creation.{Write, write, place_child, create_writes, table_writes, given_writes, moved_writes, entry_writes, fill_writes, fill_all, empty_node}
 use Rattle.adf_model.proofs.Basics.{same_Ok, not_Err, equal}
-use Rattle.adf_model.proofs.CreateFacts.{head_ends, header_ends, table_ends}
-use Rattle.adf_model.proofs.CreatedNodes.{at_new, at_set, there_inside}
-use Rattle.adf_model.proofs.ChildPlaced.{set_append, with_header, with_moved, in_place, moved, no_header, no_table}
+use Rattle.adf_model.proofs.Creation.CreateFacts.{head_ends, header_ends, table_ends}
+use Rattle.adf_model.proofs.Creation.CreatedNodes.{at_new, at_set, there_inside}
+use Rattle.adf_model.proofs.Creation.ChildPlaced.{set_append, with_header, with_moved, in_place, moved, no_header, no_table}
 use Rattle.plain_library.specs.declared.open_file.Table.{Table}
 use Rattle.plain_library.specs.declared.open_file.Row.{Row}
 use Rattle.plain_library.specs.declared.open_file.Core.{Core}

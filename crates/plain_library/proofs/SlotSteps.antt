@@ -15,8 +15,8 @@ use Rattle.adf_model.specs.Slots as model
 use Rattle.adf_model.specs.Steps.{IsLaidOut, IsLaidOutAt}
 use Rattle.adf_model.specs.Torn.{Torn, TornAt}
 use Rattle.adf_model.specs.Untouched.{KeepsTail}
-use Rattle.adf_model.proofs.LayoutLemmas.{end_of_open}
-use Rattle.adf_model.proofs.NumberedLaidOut.{numbered_laid_out}
+use Rattle.adf_model.proofs.Calls.LayoutLemmas.{end_of_open}
+use Rattle.adf_model.proofs.Trees.NumberedLaidOut.{numbered_laid_out}
 use Rattle.plain_library.proofs.FirstOf.{passed_by, refused_by}
 use Rattle.cg_io.specs.Device.{DeviceState, padded, overwritten, with_block}
 use Rattle.plain_library.specs.declared.open_file.Work.TheVariants as work

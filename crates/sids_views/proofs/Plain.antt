@@ -8,7 +8,7 @@ use Rattle.adf_model.specs.Tests.{and_then}
 use Rattle.adf_model.specs.Slots.{Files, AreTrees}
 use Rattle.adf_model.specs.Follow.{Spot, follow, link_text_at, text_of_open, text_in}
 use Rattle.adf_model.proofs.Basics.{not_there, not_true, same_Some}
-use Rattle.adf_model.proofs.ReachLemmas.{follow_well}
+use Rattle.adf_model.proofs.Following.ReachLemmas.{follow_well}
 use Rattle.adf_format.specs.declared.types.DataType.{DataType}
 use Rattle.adf_format.specs.declared.types.DataType.TheVariants.{Lk}
 use Rattle.adf_format.specs.Names.{is_lk}

@@ -14,7 +14,7 @@ use Rattle.adf_model.specs.declared.tree.Shape.{Shape}
 use Rattle.adf_model.specs.Shapes.{dims_of, is_shape}
 use Rattle.adf_model.specs.Selection.{each_axis_fits, elements_from}
 use Rattle.adf_model.proofs.Basics.{and_parts, not_true, equal}
-use Rattle.adf_model.proofs.PartKeeps.{AllBelow, elements_below}
+use Rattle.adf_model.proofs.Keeping.PartKeeps.{AllBelow, elements_below}
 use Rattle.strided.specs.declared.axis.Axis.{Axis}
 use Rattle.strided.specs.RunLists.{elements_of, spread, EndsWithin, AreMaximal}
 use Rattle.strided.specs.Axes.{axis_fits, Fits, row_of, HasRoom}

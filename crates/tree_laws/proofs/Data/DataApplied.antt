@@ -12,9 +12,9 @@ use Rattle.adf_model.specs.declared.tree.Edit.{Edit}
 use Rattle.adf_model.specs.Edits.{with_node, with_shape, with_part, shape_tests, data_tests, length_test, size_of, part_size}
 use Rattle.adf_model.specs.Selection.{selection_fits}
 use Rattle.adf_model.proofs.Basics.{found, passed, same_Ok, same_Some, not_there, and_parts}
-use Rattle.adf_model.proofs.DataKeeps.{set_dims_keeps}
-use Rattle.adf_model.proofs.EditsKeep.{apply_keeps}
-use Rattle.adf_model.proofs.CreatedNodes.{there_inside}
+use Rattle.adf_model.proofs.Keeping.DataKeeps.{set_dims_keeps}
+use Rattle.adf_model.proofs.Keeping.EditsKeep.{apply_keeps}
+use Rattle.adf_model.proofs.Creation.CreatedNodes.{there_inside}
 use Rattle.tree_laws.specs.DataSwitch.{AreSpelled}
 use Rattle.tree_laws.specs.DataApply.{NodesAreSpelled, SetDimsApplies, PutAllApplies, PutPartApplies}
 use Rattle.tree_laws.proofs.Edits.LabelSet.{set_here}

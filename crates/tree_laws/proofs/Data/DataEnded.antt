@@ -16,7 +16,7 @@ use Rattle.adf_format.proofs.BehindEnd.{AllLong, long_append, long_chunk_table, 
 use Rattle.adf_format.specs.Changes.{Writes}
 use Rattle.adf_model.specs.NodeData.{HoldsData}
 use Rattle.adf_model.specs.Edits.{with_node}
-use Rattle.adf_model.proofs.PartsApart.{range_within}
+use Rattle.adf_model.proofs.Creation.PartsApart.{range_within}
 use Rattle.tree_laws.specs.Holding.{Holds}
 use Rattle.tree_laws.specs.DataSwitch.{Switches, with_data, shape_text, AreSpelled}
 use Rattle.tree_laws.specs.DataEnds.{set_node, OneChunkEnds, OneMoreEnds, ReleaseEnds, ShapeInPlace}

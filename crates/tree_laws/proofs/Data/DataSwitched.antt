@@ -23,9 +23,9 @@ use Rattle.adf_format.proofs.FrameLaws.{whole}
 use Rattle.adf_model.specs.Edits.{with_node}
 use Rattle.adf_model.specs.NodeData.{HoldsData}
 use Rattle.adf_model.proofs.Basics.{same_Some}
-use Rattle.adf_model.proofs.CreatedNodes.{there_inside}
-use Rattle.adf_model.proofs.ManyWrites.{stand_reaches}
-use Rattle.adf_model.proofs.PartsApart.{range_out, all_apart, cover_all, cover_part, cover_two, cover_set}
+use Rattle.adf_model.proofs.Creation.CreatedNodes.{there_inside}
+use Rattle.adf_model.proofs.Writes.ManyWrites.{stand_reaches}
+use Rattle.adf_model.proofs.Creation.PartsApart.{range_out, all_apart, cover_all, cover_part, cover_two, cover_set}
 use Rattle.tree_laws.specs.Holding.{Holds, MeetsNothing}
 use Rattle.tree_laws.specs.DataSwitch.{Switches, DataSwitches, with_data}
 use Rattle.tree_laws.proofs.Holding.Steps.{within, keeps_but, once, rebuilt}

@@ -10,14 +10,14 @@ use Rattle.adf_model.specs.declared.tree.Edit.{Edit}
 use Rattle.adf_model.specs.declared.tree.NodeId.{NodeId}
 use Rattle.adf_model.specs.Edits.{apply, without, given_children, other_children}
 use Rattle.adf_model.proofs.Basics.{not_true, false_of, same_Some, same_Ok, found}
-use Rattle.adf_model.proofs.DifferLemmas.{others, among-others, others-among}
-use Rattle.adf_model.proofs.SubtreeLemmas.{parent_found, parent_none, parent_is, root_has_none, within_child, within_parent}
-use Rattle.adf_model.proofs.AncestorLemmas.{parent_tells, live_with_child, root_or_child, within_itself, root_outside, parent_outside}
-use Rattle.adf_model.proofs.DeleteKeeps.{some_of, delete_keeps, erased_at, length-erased}
+use Rattle.adf_model.proofs.Trees.DifferLemmas.{others, among-others, others-among}
+use Rattle.adf_model.proofs.Trees.SubtreeLemmas.{parent_found, parent_none, parent_is, root_has_none, within_child, within_parent}
+use Rattle.adf_model.proofs.Trees.AncestorLemmas.{parent_tells, live_with_child, root_or_child, within_itself, root_outside, parent_outside}
+use Rattle.adf_model.proofs.Keeping.DeleteKeeps.{some_of, delete_keeps, erased_at, length-erased}
 use Rattle.tree_laws.specs.Deletions.{DeletedInItsTree}
 use Rattle.tree_laws.specs.Deletions.{DeletedAbove}
 use Rattle.tree_laws.proofs.Edits.Plans.{parents_by_lineage}
-use Rattle.adf_model.proofs.Created.{inside_of}
+use Rattle.adf_model.proofs.Keeping.Created.{inside_of}
 
 none_either : (b : Bool) → ◌≡◌ {A = Option Node} None (if b then None else None)
 none_either true = refl

@@ -24,10 +24,10 @@ use Rattle.adf_format.proofs.BehindEnd.{long_chunk_table, long_chunks}
 use Rattle.adf_format.proofs.FieldLaws.{field_beside, field_around, field_written, inner_field, length-field}
 use Rattle.adf_format.proofs.FrameLaws.{field_kept, chunk_table_kept, chunks_kept, data_kept}
 use Rattle.adf_model.proofs.Basics.{not_there, not_true, same_Some}
-use Rattle.adf_model.proofs.CreatedNodes.{there_inside, among_get}
-use Rattle.adf_model.proofs.CreatedParts.{counted, pointer_same}
-use Rattle.adf_model.proofs.DifferLemmas.{bytes_eq_same, none_equal}
-use Rattle.adf_model.proofs.PartsApart.{range_in, range_within, all_apart, cover_all, cover_part, cover_two}
+use Rattle.adf_model.proofs.Creation.CreatedNodes.{there_inside, among_get}
+use Rattle.adf_model.proofs.Creation.CreatedParts.{counted, pointer_same}
+use Rattle.adf_model.proofs.Trees.DifferLemmas.{bytes_eq_same, none_equal}
+use Rattle.adf_model.proofs.Creation.PartsApart.{range_in, range_within, all_apart, cover_all, cover_part, cover_two}
 use Rattle.tree_laws.specs.Holding.{Holds, ChangesIn, MeetsNothing}
 use Rattle.tree_laws.proofs.Holding.Steps.{within, keeps_but, once, rebuilt}
 use Rattle.tree_laws.proofs.Edits.LabelSet.{set_here, set_there}

@@ -9,11 +9,11 @@ use Rattle.adf_format.specs.declared.types.Extent.{Extent}
 use Rattle.adf_format.specs.Tree.{Node, IsAmong, is_among, is_within, live_from, subtree, descend, erased_from}
 use Rattle.adf_format.specs.Placement.{NodeParts, parts_of, extents_of}
 use Rattle.adf_model.proofs.Basics.{not_true, false_of, among_head}
-use Rattle.adf_model.proofs.TreeOrder.{times, times-count_by}
+use Rattle.adf_model.proofs.Trees.TreeOrder.{times, times-count_by}
 use Rattle.tree_laws.specs.SerialOrder.{GivenBySerial, SortedWalkIsSubtree}
 use Rattle.tree_laws.proofs.Holding.GiftsFolded.{erased_left}
 use Rattle.tree_laws.proofs.Deletes.SubtreeWalked.{walks_list_subtrees, within_lives}
-use Rattle.adf_model.proofs.MoveKeeps.{among_live}
+use Rattle.adf_model.proofs.Keeping.MoveKeeps.{among_live}
 
 -- ---- gifts
 

@@ -5,10 +5,10 @@ use Rattle.std.specs.List.{flat_map}
 use Rattle.std.proofs.lemmas.Bool.Decides.{eqb_tells}
 use Rattle.adf_format.specs.Tree.{Tree, node_at, children_at, is_live, name_at, is_among, IsAmong, lineage, is_within, AllDiffer, descend, climb, families, parent_from, parent_of, IsTree}
 use Rattle.adf_model.proofs.Basics.{not_true, false_of, or_parts, or_right, among_head}
-use Rattle.adf_model.proofs.DifferLemmas.{none_equal, bytes_eq_same}
-use Rattle.adf_model.proofs.SubtreeLemmas.{lineage_child, within_child, within_parent}
-use Rattle.adf_model.proofs.AncestorLemmas.{lineage_root, root_or_child, above_is_shorter, within_itself, parent_outside, parent_tells, live_with_child}
-use Rattle.adf_model.proofs.TreeOrder.{times, total, times-count_by, same_test, times_none, only_live, differ_once, among_flat, among_append, sum_one, sum_none, times-append, times-flat, sum_is}
+use Rattle.adf_model.proofs.Trees.DifferLemmas.{none_equal, bytes_eq_same}
+use Rattle.adf_model.proofs.Trees.SubtreeLemmas.{lineage_child, within_child, within_parent}
+use Rattle.adf_model.proofs.Trees.AncestorLemmas.{lineage_root, root_or_child, above_is_shorter, within_itself, parent_outside, parent_tells, live_with_child}
+use Rattle.adf_model.proofs.Trees.TreeOrder.{times, total, times-count_by, same_test, times_none, only_live, differ_once, among_flat, among_append, sum_one, sum_none, times-append, times-flat, sum_is}
 use Rattle.tree_laws.specs.Deletions.{WalksListSubtrees}
 
 -- ---- how often a number stands in a list

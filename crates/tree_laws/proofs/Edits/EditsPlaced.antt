@@ -16,8 +16,8 @@ use Rattle.adf_model.specs.declared.tree.Edit.{Edit}
 use Rattle.adf_model.specs.declared.tree.NodeId.{NodeId}
 use Rattle.adf_model.specs.Edits.{IsReached, apply, with_node, with_new, new_link, link_tests, given_children}
 use Rattle.adf_model.proofs.Basics.{passed, same_Ok, or_none, not_lt}
-use Rattle.adf_model.proofs.CreatedNodes.{last_of, at_new, there_inside}
-use Rattle.adf_model.proofs.EditsKeep.{apply_keeps}
+use Rattle.adf_model.proofs.Creation.CreatedNodes.{last_of, at_new, there_inside}
+use Rattle.adf_model.proofs.Keeping.EditsKeep.{apply_keeps}
 use Rattle.tree_laws.specs.Holding.{Holds}
 use Rattle.tree_laws.specs.NodeJoin.{with_parts_of_new, link_parts}
 use Rattle.tree_laws.specs.EditsPlaced.{PlacesData, LinkStands, LinkEnds}

@@ -8,7 +8,7 @@ use Rattle.adf_format.specs.Placement.{extent, node_extents}
 use Rattle.adf_format.specs.HeapRule.{no_parts}
 use Rattle.adf_format.proofs.HeapSteps.{cover-append}
 use Rattle.adf_model.specs.Edits.{new_node}
-use Rattle.adf_model.proofs.CreatedParts.{node_held}
+use Rattle.adf_model.proofs.Creation.CreatedParts.{node_held}
 use Rattle.tree_laws.specs.Entries.{EntryJoins, TableJoins}
 use Rattle.tree_laws.proofs.Edits.NodeJoined.{node_joins}
 use Rattle.tree_laws.proofs.Edits.NodeWithTable.{node_joins_table}

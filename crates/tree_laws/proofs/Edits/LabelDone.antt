@@ -5,7 +5,7 @@ use Rattle.std.specs.Prelude.{nat_le}
 use Rattle.adf_format.specs.Names.{is_label}
 use Rattle.adf_format.proofs.HeapLaws.{in_range}
 use Rattle.adf_model.proofs.Basics.{and_parts}
-use Rattle.adf_model.proofs.PartsApart.{range_out}
+use Rattle.adf_model.proofs.Creation.PartsApart.{range_out}
 
 le_true : (m n : ℕ) → nat_le m n ≡ true → m ≤ n
 le_true m n e = grind (arith, nat_tests)

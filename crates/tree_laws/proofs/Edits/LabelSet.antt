@@ -17,9 +17,9 @@ use Rattle.adf_format.proofs.HeapLaws.{in_range}
 use Rattle.adf_format.proofs.BehindEnd.{long_node}
 use Rattle.adf_model.specs.Edits.{with_node}
 use Rattle.adf_model.proofs.Basics.{same_Some}
-use Rattle.adf_model.proofs.CreatedNodes.{there_inside}
-use Rattle.adf_model.proofs.CreatedParts.{padded_long}
-use Rattle.adf_model.proofs.PartsApart.{range_in, range_within, all_apart, cover_all, cover_part, cover_two}
+use Rattle.adf_model.proofs.Creation.CreatedNodes.{there_inside}
+use Rattle.adf_model.proofs.Creation.CreatedParts.{padded_long}
+use Rattle.adf_model.proofs.Creation.PartsApart.{range_in, range_within, all_apart, cover_all, cover_part, cover_two}
 use Rattle.tree_laws.specs.Holding.{Holds, ChangesIn, MeetsNothing}
 use Rattle.tree_laws.proofs.Holding.Steps.{within, keeps_but, once, rebuilt}
 use Rattle.tree_laws.proofs.Holding.NodeFields.{label_written}

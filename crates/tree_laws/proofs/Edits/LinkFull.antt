@@ -12,7 +12,7 @@ use Rattle.adf_format.specs.LaysOut.{entry_count}
 use Rattle.adf_format.specs.HeapRule.{LimitReached, Taken, no_parts, parts_or_none, parts_at, with_parts, with_new_parts, with_table, take_bytes, grown_entries, chunk_length_for, after_gives, ◌>>=◌}
 use Rattle.adf_format.proofs.HeapSteps.{cover-append}
 use Rattle.adf_model.specs.Edits.{new_link}
-use Rattle.adf_model.proofs.CreatedNodes.{there_inside}
+use Rattle.adf_model.proofs.Creation.CreatedNodes.{there_inside}
 use Rattle.tree_laws.specs.Holding.{Holds}
 use Rattle.tree_laws.specs.NodeJoin.{with_parts_of_new, link_parts}
 use Rattle.tree_laws.specs.EditsPlaced.{LinkEndsFull}

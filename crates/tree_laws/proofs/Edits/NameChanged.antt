@@ -24,10 +24,10 @@ use Rattle.adf_format.proofs.SpelledParts.{entry_long}
 use Rattle.adf_format.proofs.WrittenParts.{entry_written}
 use Rattle.adf_model.specs.Edits.{with_node}
 use Rattle.adf_model.proofs.Basics.{not_there, not_true, same_Some}
-use Rattle.adf_model.proofs.CreatedNodes.{there_inside, among_get}
-use Rattle.adf_model.proofs.CreatedParts.{padded_long}
-use Rattle.adf_model.proofs.DifferLemmas.{bytes_eq_same, none_equal}
-use Rattle.adf_model.proofs.PartsApart.{range_in, range_within, all_apart, cover_all, cover_two}
+use Rattle.adf_model.proofs.Creation.CreatedNodes.{there_inside, among_get}
+use Rattle.adf_model.proofs.Creation.CreatedParts.{padded_long}
+use Rattle.adf_model.proofs.Trees.DifferLemmas.{bytes_eq_same, none_equal}
+use Rattle.adf_model.proofs.Creation.PartsApart.{range_in, range_within, all_apart, cover_all, cover_two}
 use Rattle.tree_laws.specs.Holding.{Holds, ChangesIn, MeetsNothing}
 use Rattle.tree_laws.proofs.Holding.Steps.{within, keeps_but, once, rebuilt}
 use Rattle.tree_laws.proofs.Holding.NodeFields.{name_written}

@@ -27,9 +27,9 @@ use Rattle.adf_format.proofs.SpelledParts.{entry_long}
 use Rattle.adf_format.proofs.WrittenParts.{entry_written}
 use Rattle.adf_model.specs.Edits.{with_new, given_children}
 use Rattle.adf_model.proofs.Basics.{same_Some}
-use Rattle.adf_model.proofs.CreatedNodes.{at_new, at_set, at_other, there_inside, children_stay, names_now, parent_after, tree_after, placed_after, as_many}
-use Rattle.adf_model.proofs.CreatedParts.{counted, pointer_same}
-use Rattle.adf_model.proofs.PartsApart.{range_in, range_within, all_apart, cover_all, cover_part, cover_two, cover_set, cover_last}
+use Rattle.adf_model.proofs.Creation.CreatedNodes.{at_new, at_set, at_other, there_inside, children_stay, names_now, parent_after, tree_after, placed_after, as_many}
+use Rattle.adf_model.proofs.Creation.CreatedParts.{counted, pointer_same}
+use Rattle.adf_model.proofs.Creation.PartsApart.{range_in, range_within, all_apart, cover_all, cover_part, cover_two, cover_set, cover_last}
 use Rattle.tree_laws.specs.Holding.{Holds, ChangesIn, MeetsNothing}
 use Rattle.tree_laws.specs.NodeJoin.{NodeJoins, with_parts_of_new}
 use Rattle.tree_laws.proofs.Holding.Steps.{within, keeps_but, once, rebuilt}

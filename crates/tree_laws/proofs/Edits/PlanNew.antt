@@ -9,7 +9,7 @@ use Rattle.adf_format.specs.LaysOut.{entry_count}
 use Rattle.adf_format.specs.HeapRule.{LimitReached, Taken, GrownTable, no_parts, parts_or_none, parts_at, with_parts, with_new_parts, with_table, heap_take, take_bytes, grow_table, grown_entries, after_gives, data_extents, release, place_data, data_of_node, data_at, ◌>>=◌}
 use Rattle.adf_model.specs.Edits.{create_tests, given_children, new_node, with_new}
 use Rattle.adf_model.proofs.Basics.{passed, same_Ok}
-use Rattle.adf_model.proofs.CreatedNodes.{last_of, at_new}
+use Rattle.adf_model.proofs.Creation.CreatedNodes.{last_of, at_new}
 use Rattle.tree_laws.specs.Plans.{PlansCreate, end_of_plan}
 
 -- parts without data are released by nothing

@@ -10,7 +10,7 @@ use Rattle.adf_model.specs.Placing.{placed_as}
 use Rattle.adf_model.specs.Untouched.{touched_extents, group_shaped}
 use Rattle.adf_model.specs.Calls.{Group, group_of, group_step, group_from}
 use Rattle.adf_model.proofs.Basics.{not_there, same_Some, same_Ok}
-use Rattle.adf_model.proofs.GroupKeeps.{one_step}
+use Rattle.adf_model.proofs.Keeping.GroupKeeps.{one_step}
 use Rattle.tree_laws.specs.Leaving.{Leaves}
 use Rattle.tree_laws.specs.Groups.{tree_left}
 use Rattle.tree_laws.specs.FileLoop.{FilesGoOn, FilesStop, NoneArePlaced, OneMoreIsPlaced}

@@ -22,7 +22,7 @@ use Rattle.tree_laws.proofs.Groups.GroupsGrow.{group_grows, group_is_done, done_
 use Rattle.tree_laws.proofs.Groups.GroupLeft.{group_keeps_format, nothing_leaves, one_more_leaves}
 use Rattle.tree_laws.proofs.Groups.NeedsOfGroups.{group_needs_bound}
 use Rattle.tree_laws.proofs.Leaving.TailsKept.{tail_stays, one_more_tail}
-use Rattle.adf_model.proofs.EditsKeep.{one_step}
+use Rattle.adf_model.proofs.Keeping.EditsKeep.{one_step}
 use Rattle.tree_laws.proofs.Groups.FileGroups.{refused}
 
 pub group_begins : GroupBegins

@@ -15,7 +15,7 @@ use Rattle.adf_model.specs.Edits.{Work, IsReached, apply, at_edit, created_by, f
 use Rattle.adf_model.specs.Need.{need, cost}
 use Rattle.adf_model.specs.Placing.{placed_as, place_group, chunk_number, group_cost}
 use Rattle.adf_model.specs.Untouched.{touched_extents, group_touched}
-use Rattle.adf_model.proofs.StepTests.{step_tests}
+use Rattle.adf_model.proofs.Following.StepTests.{step_tests}
 use Rattle.adf_model.proofs.Basics.{not_there, not_Err, same_Ok, same_Some, passed}
 use Rattle.std.proofs.lemmas.List.{append_assoc, append-nil}
 use Rattle.std.specs.List.{list_any}
@@ -26,8 +26,8 @@ use Rattle.adf_model.proofs.Basics.{not_false, or_none}
 use Rattle.tree_laws.specs.Plans.{end_of_plan, plan_edit}
 use Rattle.adf_model.specs.FileGroup.{done_then, done_by}
 use Rattle.tree_laws.specs.Groups.{tree_left, placement_left, group_need, AreDone, place_plans, GroupGrows, GroupIsDone, DoneGrow, FirstsGrow, TreeGrows, PlacementGrows, PlansGrow, PlacementIsLeft, TouchedGrow, ShapedGrow, CostGrows, NeedGrows, AreDoneGrow}
-use Rattle.adf_model.proofs.EditsKeep.{one_step, at_followed}
-use Rattle.adf_model.proofs.PlacingLemmas.{same_further, further}
+use Rattle.adf_model.proofs.Keeping.EditsKeep.{one_step, at_followed}
+use Rattle.adf_model.proofs.Calls.PlacingLemmas.{same_further, further}
 
 -- ---- an edit of one file that is done is one of nodes that are reached
 

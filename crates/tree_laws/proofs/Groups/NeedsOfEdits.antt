@@ -20,8 +20,8 @@ use Rattle.adf_model.specs.Selection.{selection_fits}
 use Rattle.adf_model.specs.Need.{need, grown_table_length, kept_size, size_in, data_need}
 use Rattle.adf_model.specs.Placing.{placed_as}
 use Rattle.adf_model.proofs.Basics.{passed, found, same_Ok, not_Err}
-use Rattle.adf_model.proofs.CreatedNodes.{last_of, at_new, there_inside}
-use Rattle.adf_model.proofs.EditsKeep.{apply_keeps}
+use Rattle.adf_model.proofs.Creation.CreatedNodes.{last_of, at_new, there_inside}
+use Rattle.adf_model.proofs.Keeping.EditsKeep.{apply_keeps}
 use Rattle.std.proofs.lemmas.List.{get_or-set_same}
 use Rattle.tree_laws.specs.Needs.{NeedsBound, Grows}
 use Rattle.tree_laws.proofs.Groups.TakesGrow.{Within, more, chain, then_same, stays, take_grows, given_end, table_last, table_grows, data_grow, first_data_grow, table_leaves_chunks}

@@ -6,7 +6,7 @@ use Rattle.adf_format.specs.HeapRule.{LimitReached, place_edit, ◌>>=◌}
 use Rattle.adf_model.specs.Need.{need}
 use Rattle.adf_model.specs.Placing.{placed_as, place_group}
 use Rattle.adf_model.proofs.Basics.{same_Ok}
-use Rattle.adf_model.proofs.EditsKeep.{apply_keeps}
+use Rattle.adf_model.proofs.Keeping.EditsKeep.{apply_keeps}
 use Rattle.std.proofs.Common.{subst}
 use Rattle.tree_laws.specs.Groups.{group_need}
 use Rattle.tree_laws.specs.Needs.{Grows, GroupNeedsBound, GroupStaysTree}

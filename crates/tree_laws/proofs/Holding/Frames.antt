@@ -9,7 +9,7 @@ use Rattle.adf_format.specs.Parts.{IsFiller, SpellsFreeTable, SpellsFree}
 use Rattle.adf_format.specs.LaysOut.{ThreadsFreeChunks, IsThreaded, count_of, first_place, last_place}
 use Rattle.adf_format.proofs.BehindEnd.{counts_itself, count_append, counts_more}
 use Rattle.adf_format.proofs.FrameLaws.{field_kept}
-use Rattle.adf_model.proofs.PartsApart.{range_in}
+use Rattle.adf_model.proofs.Creation.PartsApart.{range_in}
 use Rattle.adf_model.proofs.Basics.{not_there, same_Some}
 
 -- ---- what lies in the gaps

@@ -17,8 +17,8 @@ use Rattle.adf_model.specs.declared.tree.Edit.{Edit}
 use Rattle.adf_model.specs.declared.tree.NodeId.{NodeId}
 use Rattle.adf_model.specs.Edits.{apply}
 use Rattle.adf_model.proofs.Basics.{not_true, same_Some}
-use Rattle.adf_model.proofs.DifferLemmas.{others}
-use Rattle.adf_model.proofs.PartsApart.{range_in}
+use Rattle.adf_model.proofs.Trees.DifferLemmas.{others}
+use Rattle.adf_model.proofs.Creation.PartsApart.{range_in}
 use Rattle.tree_laws.specs.Holding.{Holds}
 use Rattle.tree_laws.specs.Plans.{plan_deleted}
 use Rattle.tree_laws.specs.Gifts.{TakenInAnyOrder, Gives, GiftsEnd, DeletedAreTaken, DeletionEnds}

@@ -18,14 +18,14 @@ use Rattle.adf_format.proofs.HeapSteps.{cover-append}
 use Rattle.adf_format.proofs.HeapLaws.{in_range}
 use Rattle.adf_format.proofs.FieldLaws.{get_field, length-field}
 use Rattle.adf_format.proofs.FrameLaws.{field_of_first}
-use Rattle.adf_model.proofs.PartsApart.{range_in, range_out, range_within, cover_all}
-use Rattle.adf_model.proofs.FilledGaps.{get_replicate}
+use Rattle.adf_model.proofs.Creation.PartsApart.{range_in, range_out, range_within, cover_all}
+use Rattle.adf_model.proofs.Creation.FilledGaps.{get_replicate}
 use Rattle.adf_model.proofs.Basics.{not_there, same_Some}
 use Rattle.adf_format.specs.HeapBytes.{HoldsFillers, MovesEnd, KeepsFillers}
 use Rattle.tree_laws.specs.Holding.{Holds, ChangesIn}
 use Rattle.tree_laws.proofs.Holding.Steps.{within, once}
 use Rattle.tree_laws.proofs.Holding.HeapMoves.{moved}
-use Rattle.adf_model.proofs.CreatedParts.{z_at}
+use Rattle.adf_model.proofs.Creation.CreatedParts.{z_at}
 
 -- a byte that stands there is the one that is read
 byte_there : (xs : List ℕ) (b v : ℕ) → slice_get xs b ≡ Some v → get_or xs b 0 ≡ v

@@ -6,7 +6,7 @@ use Rattle.adf_format.specs.Fields.{field, text_field}
 use Rattle.adf_format.specs.Parts.{NodeFields, SpellsNode, node_length, chunk_count_at, dimension_digits}
 use Rattle.adf_format.specs.Changes.{Writes}
 use Rattle.adf_format.proofs.FieldLaws.{field_beside, length-field, field_around}
-use Rattle.adf_model.proofs.CreatedParts.{counted, pointer_same, padded_long, room}
+use Rattle.adf_model.proofs.Creation.CreatedParts.{counted, pointer_same, padded_long, room}
 use Rattle.adf_format.proofs.HexLaws.{hex_value-hex_text, length-hex_text}
 
 least : (w : Bool) → 246 ≤ node_length w

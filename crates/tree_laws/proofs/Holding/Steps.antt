@@ -14,7 +14,7 @@ use Rattle.adf_format.proofs.HeapSteps.{cover-append}
 use Rattle.adf_format.proofs.BehindEnd.{long_node}
 use Rattle.adf_format.proofs.LayoutLaws.{one_of}
 use Rattle.adf_format.proofs.FrameLaws.{field_kept, holds_kept}
-use Rattle.adf_model.proofs.PartsApart.{range_in, all_apart, cover_all}
+use Rattle.adf_model.proofs.Creation.PartsApart.{range_in, all_apart, cover_all}
 use Rattle.tree_laws.specs.Holding.{Holds, Rebuilds, ChangesIn, MeetsNothing}
 use Rattle.tree_laws.proofs.Holding.Frames.{threads_stay, fillers_stay}
 

@@ -6,7 +6,7 @@ use Rattle.adf_format.specs.Tiles.{cover}
 use Rattle.adf_format.specs.Placement.{Placement, head_extents, all_extents}
 use Rattle.adf_format.proofs.HeapSteps.{cover-append}
 use Rattle.adf_format.proofs.LayoutLaws.{one_of}
-use Rattle.adf_model.proofs.PartsApart.{cover_all}
+use Rattle.adf_model.proofs.Creation.PartsApart.{cover_all}
 use Rattle.tree_laws.specs.Holding.{Holds, ChangesIn}
 use Rattle.tree_laws.proofs.Holding.Steps.{once, rebuilt}
 

@@ -20,8 +20,8 @@ use Rattle.adf_format.proofs.FrameLaws.{field_kept}
 use Rattle.adf_format.proofs.LayoutLaws.{one_of}
 use Rattle.adf_model.specs.Untouched.{data_of}
 use Rattle.adf_model.proofs.Basics.{same_Some}
-use Rattle.adf_model.proofs.CreatedNodes.{there_inside}
-use Rattle.adf_model.proofs.PartsApart.{range_in, range_out, range_within, cover_all, cover_part, cover_two}
+use Rattle.adf_model.proofs.Creation.CreatedNodes.{there_inside}
+use Rattle.adf_model.proofs.Creation.PartsApart.{range_in, range_out, range_within, cover_all, cover_part, cover_two}
 use Rattle.tree_laws.specs.Holding.{Holds, ChangesIn, MeetsNothing}
 use Rattle.tree_laws.specs.Leaving.{Leaves}
 use Rattle.tree_laws.specs.Gifts.{Gives}
@@ -32,7 +32,7 @@ use Rattle.tree_laws.proofs.Edits.LabelSet.{set_here, set_there}
 use Rattle.tree_laws.proofs.Leaving.LeavingLaws.{contains_cover, steps_leave, head_byte}
 use Rattle.tree_laws.proofs.Holding.GiftsFolded.{given_one}
 use Rattle.tree_laws.proofs.Data.DataSwitched.{own_parts}
-use Rattle.adf_model.proofs.CreateStays.{node_of, of_node}
+use Rattle.adf_model.proofs.Creation.CreateStays.{node_of, of_node}
 
 -- ---- bytes of extents
 

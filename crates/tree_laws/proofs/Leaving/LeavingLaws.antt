@@ -15,12 +15,12 @@ use Rattle.adf_format.proofs.HeapSteps.{cover-append}
 use Rattle.adf_format.proofs.FrameLaws.{field_kept}
 use Rattle.adf_format.proofs.LayoutLaws.{one_of}
 use Rattle.adf_model.proofs.Basics.{not_there, not_true, same_Some}
-use Rattle.adf_model.proofs.CreatedNodes.{there_inside}
-use Rattle.adf_model.proofs.PartsApart.{range_in, cover_all}
+use Rattle.adf_model.proofs.Creation.CreatedNodes.{there_inside}
+use Rattle.adf_model.proofs.Creation.PartsApart.{range_in, cover_all}
 use Rattle.tree_laws.specs.Holding.{Holds, Rebuilds, MovesHeap, ChangesIn, MeetsNothing}
 use Rattle.tree_laws.specs.Leaving.{Leaves, Spares}
 use Rattle.tree_laws.proofs.Holding.Steps.{within}
-use Rattle.adf_model.proofs.CreateStays.{node_of, of_node, none_in}
+use Rattle.adf_model.proofs.Creation.CreateStays.{node_of, of_node, none_in}
 
 -- the bytes of an extent are covered
 pub contains_cover : (xs : List Extent) (e : Extent) (b : ℕ) → Contains xs e → e.place ≤ b → b < end_of e → 0 < cover xs b

@@ -28,8 +28,8 @@ use Rattle.adf_model.specs.declared.tree.NodeId.{NodeId}
 use Rattle.adf_model.specs.Edits.{apply}
 use Rattle.adf_model.specs.Untouched.{of_parent, list_of}
 use Rattle.adf_model.proofs.Basics.{not_true, not_there, same_Some, among_head, or_right}
-use Rattle.adf_model.proofs.CreatedNodes.{there_inside}
-use Rattle.adf_model.proofs.PartsApart.{range_out, range_within, cover_part, cover_two}
+use Rattle.adf_model.proofs.Creation.CreatedNodes.{there_inside}
+use Rattle.adf_model.proofs.Creation.PartsApart.{range_out, range_within, cover_part, cover_two}
 use Rattle.tree_laws.specs.Holding.{Holds, ChangesIn}
 use Rattle.tree_laws.specs.Leaving.{Leaves}
 use Rattle.tree_laws.specs.Tables.{ClosesUp}
@@ -42,8 +42,8 @@ use Rattle.tree_laws.proofs.Holding.OwnRanges.{two_written}
 use Rattle.tree_laws.proofs.Deletes.DeletedTree.{deleted_in_its_tree}
 use Rattle.tree_laws.proofs.Data.DataSwitched.{own_parts}
 use Rattle.tree_laws.proofs.Leaving.LeavesDirect.{covers, dims_byte, own_cases, data_in, sparing_leaves}
-use Rattle.adf_model.proofs.MoveKeeps.{among_live}
-use Rattle.adf_model.proofs.CreateStays.{of_node}
+use Rattle.adf_model.proofs.Keeping.MoveKeeps.{among_live}
+use Rattle.adf_model.proofs.Creation.CreateStays.{of_node}
 use Rattle.tree_laws.proofs.Leaving.LeavingLaws.{head_byte}
 use Rattle.tree_laws.proofs.Edits.EditsPlaced.{front_get}
 use Rattle.tree_laws.proofs.Tables.TableReplaced.{some_at}

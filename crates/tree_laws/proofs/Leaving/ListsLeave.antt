@@ -15,13 +15,13 @@ use Rattle.adf_format.proofs.HeapSteps.{cover-append}
 use Rattle.adf_format.proofs.HeapLaws.{in_range}
 use Rattle.adf_format.proofs.LayoutLaws.{one_of}
 use Rattle.adf_model.proofs.Basics.{same_Some}
-use Rattle.adf_model.proofs.PartsApart.{range_in, cover_all}
+use Rattle.adf_model.proofs.Creation.PartsApart.{range_in, cover_all}
 use Rattle.tree_laws.specs.Holding.{Holds, ChangesIn, MeetsNothing}
 use Rattle.tree_laws.specs.Leaving.{Leaves}
 use Rattle.tree_laws.proofs.Holding.Steps.{within, once}
 use Rattle.tree_laws.proofs.Holding.OwnRanges.{data_extents}
 use Rattle.tree_laws.proofs.Leaving.LeavingLaws.{contains_cover, live_kept, head_byte, header_byte}
-use Rattle.adf_model.proofs.CreateStays.{node_of, none_in}
+use Rattle.adf_model.proofs.Creation.CreateStays.{node_of, none_in}
 
 -- the header and the table of a node
 abbrev pub list_extents : Bool → NodeParts → List Extent

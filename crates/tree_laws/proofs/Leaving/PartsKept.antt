@@ -12,10 +12,10 @@ use Rattle.adf_format.specs.Parts.{node_length}
 use Rattle.adf_format.specs.Placement.{Placement, NodeParts, TablePart, parts_of, extent, extents_of, node_extents, table_extents, chunk_table_extents, chunk_extents}
 use Rattle.adf_format.specs.HeapRule.{no_parts}
 use Rattle.adf_model.proofs.Basics.{same_Some, not_there}
-use Rattle.adf_model.proofs.CreatedNodes.{there_inside}
+use Rattle.adf_model.proofs.Creation.CreatedNodes.{there_inside}
 use Rattle.tree_laws.specs.Parting.{SameParts, NewParts, TableParts, ErasedParts, PartsGoOn, MorePart}
 use Rattle.tree_laws.proofs.Edits.LabelSet.{set_here, set_there}
-use Rattle.adf_model.proofs.CreateStays.{node_of, of_node}
+use Rattle.adf_model.proofs.Creation.CreateStays.{node_of, of_node}
 
 pub same_header : (o : Option NodeParts) (from to : NodeParts) → o ≡ Some from → o ≡ Some to → to.header ≡ from.header
 same_header o from to e f = ap (λ (parts : NodeParts). parts.header) (same_Some to from (sym f ∙ e))

@@ -14,8 +14,8 @@ use Rattle.adf_format.specs.Changes.{Writes}
 use Rattle.adf_format.proofs.HeapLaws.{in_range}
 use Rattle.adf_format.proofs.LayoutLaws.{one_of}
 use Rattle.adf_model.proofs.Basics.{same_Some}
-use Rattle.adf_model.proofs.CreatedNodes.{there_inside}
-use Rattle.adf_model.proofs.PartsApart.{range_in, range_within, cover_all, cover_two}
+use Rattle.adf_model.proofs.Creation.CreatedNodes.{there_inside}
+use Rattle.adf_model.proofs.Creation.PartsApart.{range_in, range_within, cover_all, cover_two}
 use Rattle.tree_laws.specs.Holding.{Holds, ChangesIn}
 use Rattle.tree_laws.specs.Leaving.{Leaves}
 use Rattle.tree_laws.specs.Moving.{LongerLeaves, with_longer}
@@ -26,7 +26,7 @@ use Rattle.tree_laws.proofs.Leaving.LeavingLaws.{contains_cover, live_kept, head
 use Rattle.tree_laws.proofs.Leaving.ListsLeave.{list_extents, list_or_data, list_split, data_in_node, count_or_dims}
 use Rattle.tree_laws.proofs.Moves.MovedNodes.{is_or_not}
 use Rattle.tree_laws.proofs.Holding.OwnRanges.{least, data_extents}
-use Rattle.adf_model.proofs.CreateStays.{node_of, of_node}
+use Rattle.adf_model.proofs.Creation.CreateStays.{node_of, of_node}
 
 module _ (old new text : List ℕ) (tree : Tree) (p : Placement) (taken : List Extent) (serial table entries : ℕ) (from : NodeParts) (h : Holds old tree p taken) (placed : parts_of p serial ≡ Some from) (w : Writes (from.header + 68) text old new) (long : length text ≡ 28) where
   abbrev q : Placement

@@ -7,7 +7,7 @@ use Rattle.adf_format.specs.Tiles.{cover}
 use Rattle.adf_format.specs.Placement.{Placement, extent, live_extents, head_extents, all_extents}
 use Rattle.adf_format.proofs.HeapSteps.{cover-append}
 use Rattle.adf_model.specs.Placing.{placed_as}
-use Rattle.adf_model.proofs.PartsApart.{range_in, range_out}
+use Rattle.adf_model.proofs.Creation.PartsApart.{range_in, range_out}
 use Rattle.std.proofs.Common.{◌⊎◌, inl, inr}
 use Rattle.std.proofs.lemmas.Bool.Decides.{leb_tells}
 use Rattle.tree_laws.specs.Holding.{Holds, ChangesIn}

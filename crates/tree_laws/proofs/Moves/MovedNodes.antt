@@ -11,7 +11,7 @@ use Rattle.adf_model.specs.declared.tree.NodeId.{NodeId}
 use Rattle.adf_model.specs.Tests.{checked}
 use Rattle.adf_model.specs.Edits.{apply, moved, move_tests, other_children, with_children, given_children}
 use Rattle.adf_model.proofs.Basics.{not_true, or_none, same_Ok, passed, found}
-use Rattle.adf_model.proofs.Keeps.{at-set}
+use Rattle.adf_model.proofs.Keeping.Keeps.{at-set}
 use Rattle.tree_laws.proofs.Edits.LabelSet.{set_there}
 
 -- ---- one list of children is given

@@ -22,8 +22,8 @@ use Rattle.adf_format.proofs.SpelledParts.{entry_long}
 use Rattle.adf_format.proofs.WrittenParts.{entry_written}
 use Rattle.adf_model.specs.Edits.{moved, given_children}
 use Rattle.adf_model.proofs.Basics.{same_Some}
-use Rattle.adf_model.proofs.CreatedNodes.{there_inside}
-use Rattle.adf_model.proofs.PartsApart.{range_within, cover_two}
+use Rattle.adf_model.proofs.Creation.CreatedNodes.{there_inside}
+use Rattle.adf_model.proofs.Creation.PartsApart.{range_within, cover_two}
 use Rattle.tree_laws.specs.Holding.{Holds, ChangesIn, MeetsNothing}
 use Rattle.tree_laws.specs.Leaving.{Leaves}
 use Rattle.tree_laws.proofs.Holding.Steps.{once}

@@ -5,11 +5,11 @@ use Rattle.std.specs.Prelude.{Option, Some, None, IsSome}
 use Rattle.adf_format.specs.Tree.{Tree, IsTree, IsAmong, is_among, node_at, children_at, parent_of, parent_from, families, climb, depth_of, lineage, is_within}
 use Rattle.adf_model.specs.Edits.{moved, other_children}
 use Rattle.adf_model.proofs.Basics.{not_true, not_there, false_of, same_Some}
-use Rattle.adf_model.proofs.DifferLemmas.{among-others}
-use Rattle.adf_model.proofs.LineageLemmas.{among-append, among-append_same}
-use Rattle.adf_model.proofs.SubtreeLemmas.{parent_is, lineage_child, within_child, within_parent}
-use Rattle.adf_model.proofs.AncestorLemmas.{above_is_shorter, parent_tells, live_with_child, lineage_root, root_or_child, within_itself, root_outside}
-use Rattle.adf_model.proofs.MoveKeeps.{move_keeps}
+use Rattle.adf_model.proofs.Trees.DifferLemmas.{among-others}
+use Rattle.adf_model.proofs.Trees.LineageLemmas.{among-append, among-append_same}
+use Rattle.adf_model.proofs.Trees.SubtreeLemmas.{parent_is, lineage_child, within_child, within_parent}
+use Rattle.adf_model.proofs.Trees.AncestorLemmas.{above_is_shorter, parent_tells, live_with_child, lineage_root, root_or_child, within_itself, root_outside}
+use Rattle.adf_model.proofs.Keeping.MoveKeeps.{move_keeps}
 use Rattle.tree_laws.specs.Moving.{MovedInItsTree, IsMoved}
 use Rattle.tree_laws.proofs.Moves.MovedNodes.{is_or_not, others_of_none, moved_name, moved_live, moved_serials, moved_other, list_other, list_rest, list_from, list_to, move_made, rest}
 

@@ -24,9 +24,9 @@ use Rattle.adf_model.specs.Edits.{moved}
 use Rattle.adf_model.specs.Untouched.{touched_extents, of_parent, list_of}
 use Rattle.adf_format.specs.HeapRule.{parts_or_none}
 use Rattle.adf_model.proofs.Basics.{not_true, not_there, same_Some}
-use Rattle.adf_model.proofs.CreatedNodes.{among_get, there_inside}
-use Rattle.adf_model.proofs.AncestorLemmas.{live_with_child, within_itself}
-use Rattle.adf_model.proofs.MoveKeeps.{move_keeps}
+use Rattle.adf_model.proofs.Creation.CreatedNodes.{among_get, there_inside}
+use Rattle.adf_model.proofs.Trees.AncestorLemmas.{live_with_child, within_itself}
+use Rattle.adf_model.proofs.Keeping.MoveKeeps.{move_keeps}
 use Rattle.tree_laws.specs.Holding.{Holds}
 use Rattle.tree_laws.specs.Leaving.{Leaves}
 use Rattle.tree_laws.specs.Moving.{SaysMove, ByLast, ByOver, ByLastLonger, ByOverLonger, LeavesMoved, MovesLast, MovesOver, MovesLastLonger, MovesOverLonger, with_longer}

@@ -11,8 +11,8 @@ use Rattle.adf_format.specs.Verdict.{NodePlace, ListsNodes}
 use Rattle.adf_format.proofs.LayoutLaws.{live_parts}
 use Rattle.adf_format.specs.HeapRule.{parts_or_none}
 use Rattle.adf_model.proofs.Basics.{not_true, same_Some}
-use Rattle.adf_model.proofs.CreatedNodes.{among_get, there_inside}
-use Rattle.adf_model.proofs.Renumbered.{live_listed, index_map}
+use Rattle.adf_model.proofs.Creation.CreatedNodes.{among_get, there_inside}
+use Rattle.adf_model.proofs.Trees.Renumbered.{live_listed, index_map}
 use Rattle.tree_laws.specs.Reading.{SaysPlace, ArePlaces, placement_in, listed_places, VerdictIsRead}
 use Rattle.tree_laws.proofs.Reading.TreesRead.{table_is_places, tree_is_read}
 

@@ -21,15 +21,15 @@ use Rattle.adf_format.proofs.HexLaws.{hex_value-hex_text, length-hex_text}
 use Rattle.adf_format.proofs.BehindEnd.{long_chunk_table, long_chunks}
 use Rattle.adf_format.proofs.FieldLaws.{field_around, length-field}
 use Rattle.adf_format.proofs.FrameLaws.{field_kept, chunk_table_kept, chunks_kept, data_kept}
-use Rattle.adf_model.proofs.ManyWrites.{stand_reaches}
+use Rattle.adf_model.proofs.Writes.ManyWrites.{stand_reaches}
 use Rattle.adf_model.proofs.Basics.{same_Some}
-use Rattle.adf_model.proofs.CreatedNodes.{there_inside}
-use Rattle.adf_model.proofs.CreatedParts.{counted}
-use Rattle.adf_model.proofs.PartsApart.{range_in, range_out, range_within, all_apart, cover_all, cover_part, cover_two, cover_set}
+use Rattle.adf_model.proofs.Creation.CreatedNodes.{there_inside}
+use Rattle.adf_model.proofs.Creation.CreatedParts.{counted}
+use Rattle.adf_model.proofs.Creation.PartsApart.{range_in, range_out, range_within, all_apart, cover_all, cover_part, cover_two, cover_set}
 use Rattle.tree_laws.specs.Holding.{Holds, ChangesIn, MeetsNothing}
 use Rattle.tree_laws.proofs.Holding.Steps.{within, keeps_but, once, rebuilt}
 use Rattle.tree_laws.proofs.Edits.LabelSet.{written_in}
-use Rattle.adf_model.proofs.TableMoved.{used_long, used_says}
+use Rattle.adf_model.proofs.Creation.TableMoved.{used_long, used_says}
 use Rattle.adf_model.specs.Creation.{used_entries}
 use Rattle.adf_format.specs.Pointer.{pointer, pointer_text}
 use Rattle.adf_format.specs.Records.{SubNodes}

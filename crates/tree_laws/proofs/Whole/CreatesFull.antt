@@ -20,7 +20,7 @@ use Rattle.adf_model.specs.Creation.{empty_node, used_entries, unused_entries}
 use Rattle.adf_model.specs.Edits.{file_step}
 use Rattle.adf_model.specs.Untouched.{touched_extents}
 use Rattle.adf_format.specs.Changes.{Writes}
-use Rattle.adf_model.proofs.CreatedNodes.{there_inside, at_set}
+use Rattle.adf_model.proofs.Creation.CreatedNodes.{there_inside, at_set}
 use Rattle.tree_laws.specs.Holding.{Holds}
 use Rattle.tree_laws.specs.MidEdit.{IsMidEdit, Puts, GivesAll}
 use Rattle.tree_laws.specs.Spared.{AreSpared, IsEditWhole}

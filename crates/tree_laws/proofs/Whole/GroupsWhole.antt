@@ -14,7 +14,7 @@ use Rattle.adf_format.proofs.FieldLaws.{inner_field}
 use Rattle.adf_model.specs.declared.tree.Edit.{Edit}
 use Rattle.adf_model.specs.Placing.{place_group}
 use Rattle.adf_model.specs.Untouched.{touched_extents, group_touched, group_shaped, most_in, most_dims, most_children, rank_of, KeepsRest, KeepsTail}
-use Rattle.adf_model.proofs.CreatedNodes.{there_inside}
+use Rattle.adf_model.proofs.Creation.CreatedNodes.{there_inside}
 use Rattle.adf_model.proofs.Basics.{same_Some}
 use Rattle.adf_model.specs.FileGroup.{done_by}
 use Rattle.tree_laws.specs.Groups.{tree_left}

@@ -22,7 +22,7 @@ use Rattle.adf_model.specs.Creation.{used_entries, unused_entries}
 use Rattle.adf_model.specs.Edits.{apply, file_step, with_new, new_link, IsReached}
 use Rattle.adf_model.specs.Untouched.{touched_extents}
 use Rattle.adf_format.specs.Changes.{Writes}
-use Rattle.adf_model.proofs.CreatedNodes.{there_inside, at_new, at_set}
+use Rattle.adf_model.proofs.Creation.CreatedNodes.{there_inside, at_new, at_set}
 use Rattle.tree_laws.specs.Holding.{Holds}
 use Rattle.tree_laws.specs.MidEdit.{IsMidEdit, Puts, GivesAll}
 use Rattle.tree_laws.specs.Spared.{AreSpared, IsEditWhole}

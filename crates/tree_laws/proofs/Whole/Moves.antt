@@ -22,7 +22,7 @@ use Rattle.adf_model.specs.declared.tree.NodeId.{NodeId}
 use Rattle.adf_model.specs.Edits.{IsReached, apply, file_step, other_children}
 use Rattle.adf_model.specs.Untouched.{touched_extents, list_of, of_parent}
 use Rattle.adf_model.proofs.Basics.{false_of}
-use Rattle.adf_model.proofs.CreatedNodes.{among_get}
+use Rattle.adf_model.proofs.Creation.CreatedNodes.{among_get}
 use Rattle.tree_laws.specs.Holding.{Holds}
 use Rattle.tree_laws.specs.MidEdit.{IsMidEdit, Puts}
 use Rattle.tree_laws.specs.Plans.{end_of_plan}

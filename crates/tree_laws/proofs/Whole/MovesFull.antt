@@ -41,8 +41,8 @@ use Rattle.tree_laws.proofs.Whole.Creates.{more_entries}
 use Rattle.tree_laws.proofs.Edits.LabelSet.{set_here}
 use Rattle.tree_laws.proofs.Data.DataSwitched.{long_list}
 use Rattle.tree_laws.proofs.Leaving.PartsKept.{table_parts}
-use Rattle.adf_model.proofs.CreatedNodes.{there_inside}
-use Rattle.adf_model.proofs.PartsApart.{range_within}
+use Rattle.adf_model.proofs.Creation.CreatedNodes.{there_inside}
+use Rattle.adf_model.proofs.Creation.PartsApart.{range_within}
 
 module _ (limit : ℕ) (writable : Bool) (old start grown a b c middle new : List ℕ) (tree after : Tree) (p : Placement) (heap : Heap) (kind : ExtentKind) (node to : NodeId) (parent i table : ℕ) (from its other : NodeParts) (t : TablePart)
     (l : LaysOut old tree p) (made : file_step writable tree (Edit.Move node to) ≡ Ok after) (above : parent_of tree node.serial ≡ Some parent) (differ : parent ≢ to.serial) (listed : slice_get (children_at tree parent) i ≡ Some node.serial)

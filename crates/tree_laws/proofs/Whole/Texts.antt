@@ -21,9 +21,9 @@ use Rattle.adf_model.specs.declared.tree.NodeId.{NodeId}
 use Rattle.adf_model.specs.Edits.{with_node, has_named, other_children, file_step}
 use Rattle.adf_model.specs.Untouched.{touched_extents, header_extent, table_of, of_parent}
 use Rattle.adf_model.proofs.Basics.{not_true, same_Some, same_Ok, passed, found}
-use Rattle.adf_model.proofs.EditsKeep.{apply_keeps}
-use Rattle.adf_model.proofs.AncestorLemmas.{within_itself, parent_outside}
-use Rattle.adf_model.proofs.CreatedNodes.{among_get, there_inside}
+use Rattle.adf_model.proofs.Keeping.EditsKeep.{apply_keeps}
+use Rattle.adf_model.proofs.Trees.AncestorLemmas.{within_itself, parent_outside}
+use Rattle.adf_model.proofs.Creation.CreatedNodes.{among_get, there_inside}
 use Rattle.tree_laws.specs.Holding.{Holds}
 use Rattle.tree_laws.specs.MidEdit.{Puts, IsMidEdit}
 use Rattle.adf_format.specs.HeapBytes.{ChangesOnly}

@@ -1,7 +1,7 @@
 use Rattle.std.specs.Prelude.{◌==◌}
 use Rattle.std.specs.List.{list_any}
 use Rattle.adf_model.proofs.Basics.{and_parts}
-use Rattle.adf_model.proofs.LinkKeeps.{path_part-link_text, is_link_text-link_text}
+use Rattle.adf_model.proofs.Keeping.LinkKeeps.{path_part-link_text, is_link_text-link_text}
 use Rattle.adf_format.specs.Links.{is_link_path, path_part}
 use Rattle.adf_links.proofs.LinkLaws.{file_part-link_text, link_text-parts, parts_linked}
 use Rattle.adf_links.proofs.links.parts_of_joined.Goals as goal

@@ -1,4 +1,4 @@
-use Rattle.adf_model.proofs.CreateLaidOut.{create_leaves}
+use Rattle.adf_model.proofs.Creation.CreateLaidOut.{create_leaves}
 use Rattle.adf_model.proofs.create_laws.created_child_leaves_the_rest.Goals as goal
 
 pub returns : goal.returns

@@ -1,4 +1,4 @@
-use Rattle.adf_model.proofs.UntouchedData.{no_chunks, data_read, data_once}
+use Rattle.adf_model.proofs.Writes.UntouchedData.{no_chunks, data_read, data_once}
 use Rattle.adf_model.proofs.data_laws.chunks_hold_data.Goals as goal
 
 pub returns-clause-none : goal.returns-clause-none

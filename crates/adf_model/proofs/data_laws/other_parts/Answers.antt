@@ -1,4 +1,4 @@
-use Rattle.adf_model.proofs.UntouchedData.{others_kept}
+use Rattle.adf_model.proofs.Writes.UntouchedData.{others_kept}
 use Rattle.adf_model.proofs.data_laws.other_parts.Goals as goal
 
 pub returns : goal.returns

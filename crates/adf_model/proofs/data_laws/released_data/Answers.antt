@@ -1,4 +1,4 @@
-use Rattle.adf_model.proofs.UntouchedData.{release_none, release_rest, release_gives, others_kept}
+use Rattle.adf_model.proofs.Writes.UntouchedData.{release_none, release_rest, release_gives, others_kept}
 use Rattle.adf_model.proofs.data_laws.released_data.Goals as goal
 
 pub returns-clause-none : goal.returns-clause-none

@@ -1,4 +1,4 @@
-use Rattle.adf_model.proofs.UntouchedData.{resize_keeps, resize_grows, resize_fresh, others_kept}
+use Rattle.adf_model.proofs.Writes.UntouchedData.{resize_keeps, resize_grows, resize_fresh, others_kept}
 use Rattle.adf_model.proofs.data_laws.resized_data.Goals as goal
 
 pub returns-clause-kept : goal.returns-clause-kept

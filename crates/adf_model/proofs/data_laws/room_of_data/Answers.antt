@@ -1,4 +1,4 @@
-use Rattle.adf_model.proofs.DataRoom.{resized_room, released_room, room_apart}
+use Rattle.adf_model.proofs.Writes.DataRoom.{resized_room, released_room, room_apart}
 use Rattle.adf_model.proofs.data_laws.room_of_data.Goals as goal
 
 pub returns-clause-resized : goal.returns-clause-resized

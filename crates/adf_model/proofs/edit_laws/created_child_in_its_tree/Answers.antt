@@ -1,4 +1,4 @@
-use Rattle.adf_model.proofs.CreatedChild.{serial_drawn, child_there, last_child, others_stay, above_stay, above_child, child_depth}
+use Rattle.adf_model.proofs.Keeping.CreatedChild.{serial_drawn, child_there, last_child, others_stay, above_stay, above_child, child_depth}
 use Rattle.adf_model.proofs.edit_laws.created_child_in_its_tree.Goals as goal
 
 pub returns-clause-serial : goal.returns-clause-serial

@@ -1,4 +1,4 @@
-use Rattle.adf_model.proofs.CreateLaidOut.{create_laid_out, create_written, create_fills}
+use Rattle.adf_model.proofs.Creation.CreateLaidOut.{create_laid_out, create_written, create_fills}
 use Rattle.adf_model.proofs.edit_laws.created_child_is_laid_out.Goals as goal
 
 pub returns-clause-laid_out : goal.returns-clause-laid_out

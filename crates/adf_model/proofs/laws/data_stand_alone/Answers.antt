@@ -1,4 +1,4 @@
-use Rattle.adf_model.proofs.DataLaws.{hold-alone, release-alone}
+use Rattle.adf_model.proofs.Writes.DataLaws.{hold-alone, release-alone}
 use Rattle.adf_model.proofs.laws.data_stand_alone.Goals as goal
 
 pub returns-clause-resize : goal.returns-clause-resize

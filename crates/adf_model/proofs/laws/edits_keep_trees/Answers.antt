@@ -1,5 +1,5 @@
-use Rattle.adf_model.proofs.EditsKeep.{apply_keeps, file_step_keeps, file_group_keeps}
-use Rattle.adf_model.proofs.GroupKeeps.{edit_group_keeps}
+use Rattle.adf_model.proofs.Keeping.EditsKeep.{apply_keeps, file_step_keeps, file_group_keeps}
+use Rattle.adf_model.proofs.Keeping.GroupKeeps.{edit_group_keeps}
 use Rattle.adf_model.proofs.laws.edits_keep_trees.Goals as goal
 
 pub returns-clause-edit : goal.returns-clause-edit

@@ -1,4 +1,4 @@
-use Rattle.adf_model.proofs.StayLaws.{entry_first, file_entry_first, read_errors}
+use Rattle.adf_model.proofs.Writes.StayLaws.{entry_first, file_entry_first, read_errors}
 use Rattle.adf_model.proofs.laws.entry_comes_first.Goals as goal
 
 pub returns-clause-files : goal.returns-clause-files

@@ -1,5 +1,5 @@
-use Rattle.adf_model.proofs.FollowLaws.{follow-step, follow_spends, follow_spends_link}
-use Rattle.adf_model.proofs.ReachLemmas.{follow_well}
+use Rattle.adf_model.proofs.Following.FollowLaws.{follow-step, follow_spends, follow_spends_link}
+use Rattle.adf_model.proofs.Following.ReachLemmas.{follow_well}
 use Rattle.adf_model.proofs.laws.following_ends.Goals as goal
 
 pub returns-clause-step : goal.returns-clause-step

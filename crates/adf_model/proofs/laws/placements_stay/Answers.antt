@@ -1,6 +1,6 @@
 use Rattle.std.proofs.Common.{◌∙◌, sym, ap}
 use Rattle.adf_model.proofs.Basics.{same_Ok}
-use Rattle.adf_model.proofs.StayLaws.{stays_placed, stays_placed_all}
+use Rattle.adf_model.proofs.Writes.StayLaws.{stays_placed, stays_placed_all}
 use Rattle.adf_model.proofs.laws.placements_stay.Goals as goal
 
 pub returns-clause-opening : goal.returns-clause-opening

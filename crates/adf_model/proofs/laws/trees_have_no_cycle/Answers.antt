@@ -1,5 +1,5 @@
-use Rattle.adf_model.proofs.StayLaws.{no_root_child}
-use Rattle.adf_model.proofs.AncestorLemmas.{parent_outside}
+use Rattle.adf_model.proofs.Writes.StayLaws.{no_root_child}
+use Rattle.adf_model.proofs.Trees.AncestorLemmas.{parent_outside}
 use Rattle.adf_model.proofs.laws.trees_have_no_cycle.Goals as goal
 
 pub returns-clause-root : goal.returns-clause-root

@@ -1,4 +1,4 @@
-use Rattle.adf_model.proofs.OneFileLaws.{in_its_file, reached_as_many, one_group_as_many}
+use Rattle.adf_model.proofs.Following.OneFileLaws.{in_its_file, reached_as_many, one_group_as_many}
 use Rattle.adf_model.proofs.one_file_laws.one_file_as_many.Goals as goal
 
 pub returns-clause-step : goal.returns-clause-step

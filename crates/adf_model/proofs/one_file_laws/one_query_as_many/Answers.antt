@@ -1,4 +1,4 @@
-use Rattle.adf_model.proofs.QueryAsMany.{query_as_many}
+use Rattle.adf_model.proofs.Following.QueryAsMany.{query_as_many}
 use Rattle.adf_model.proofs.one_file_laws.one_query_as_many.Goals as goal
 
 pub returns : goal.returns

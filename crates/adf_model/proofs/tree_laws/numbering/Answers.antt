@@ -1,4 +1,4 @@
-use Rattle.adf_model.proofs.Renumbered.{numbered_is_tree, numbered_is_numbered, numbered_is_same}
+use Rattle.adf_model.proofs.Trees.Renumbered.{numbered_is_tree, numbered_is_numbered, numbered_is_same}
 use Rattle.adf_model.proofs.tree_laws.numbering.Goals as goal
 
 pub returns-clause-keeps : goal.returns-clause-keeps

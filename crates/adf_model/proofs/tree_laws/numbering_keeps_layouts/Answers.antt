@@ -1,4 +1,4 @@
-use Rattle.adf_model.proofs.NumberedLaidOut.{numbered_laid_out}
+use Rattle.adf_model.proofs.Trees.NumberedLaidOut.{numbered_laid_out}
 use Rattle.adf_model.proofs.tree_laws.numbering_keeps_layouts.Goals as goal
 
 pub returns : goal.returns

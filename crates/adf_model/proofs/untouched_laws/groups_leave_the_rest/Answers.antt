@@ -1,4 +1,4 @@
-use Rattle.adf_model.proofs.UntouchedParts.{date_stays, group_leaves}
+use Rattle.adf_model.proofs.Writes.UntouchedParts.{date_stays, group_leaves}
 use Rattle.adf_model.proofs.untouched_laws.groups_leave_the_rest.Goals as goal
 
 pub returns-clause-parts : goal.returns-clause-parts

@@ -1,4 +1,4 @@
-use Rattle.adf_model.proofs.UntouchedParts.{front_stays, date_stays, behind_stays}
+use Rattle.adf_model.proofs.Writes.UntouchedParts.{front_stays, date_stays, behind_stays}
 use Rattle.adf_model.proofs.untouched_laws.heads_stay.Goals as goal
 
 pub returns-clause-front : goal.returns-clause-front

@@ -1,4 +1,4 @@
-use Rattle.adf_model.proofs.UntouchedParts.{all_stay, header_stays, two_stay, beside_stays, dims_stay}
+use Rattle.adf_model.proofs.Writes.UntouchedParts.{all_stay, header_stays, two_stay, beside_stays, dims_stay}
 use Rattle.adf_model.proofs.untouched_laws.parts_stay.Goals as goal
 
 pub returns-clause-all : goal.returns-clause-all

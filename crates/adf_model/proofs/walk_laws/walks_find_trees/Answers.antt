@@ -1,4 +1,4 @@
-use Rattle.adf_model.proofs.WalkNames.{walk_sound}
+use Rattle.adf_model.proofs.Walks.WalkNames.{walk_sound}
 use Rattle.adf_model.proofs.walk_laws.walks_find_trees.Goals as goal
 
 pub returns : goal.returns

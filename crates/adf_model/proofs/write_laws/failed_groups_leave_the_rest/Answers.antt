@@ -1,4 +1,4 @@
-use Rattle.adf_model.proofs.FailedWrites.{torn_beside, torn_elsewhere, failed_beside}
+use Rattle.adf_model.proofs.Writes.FailedWrites.{torn_beside, torn_elsewhere, failed_beside}
 use Rattle.adf_model.proofs.write_laws.failed_groups_leave_the_rest.Goals as goal
 
 pub returns-clause-beside : goal.returns-clause-beside

@@ -1,4 +1,4 @@
-use Rattle.adf_model.proofs.TornTail.{behind_stays, tail_stays, written_stands}
+use Rattle.adf_model.proofs.Writes.TornTail.{behind_stays, tail_stays, written_stands}
 use Rattle.adf_model.proofs.write_laws.torn_files_keep_the_tail.Goals as goal
 
 pub returns-clause-behind : goal.returns-clause-behind

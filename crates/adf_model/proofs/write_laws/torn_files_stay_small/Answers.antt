@@ -1,4 +1,4 @@
-use Rattle.adf_model.proofs.FailedWrites.{no_longer, as_long}
+use Rattle.adf_model.proofs.Writes.FailedWrites.{no_longer, as_long}
 use Rattle.adf_model.proofs.write_laws.torn_files_stay_small.Goals as goal
 
 pub returns-clause-length : goal.returns-clause-length
