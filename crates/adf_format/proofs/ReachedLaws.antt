@@ -40,5 +40,5 @@ pub later_changes : (xs : List Extent) (a b c : List ℕ) → ChangesOnly xs a b
 later_changes xs a b c v w = record {
   longer = (let x = v.longer in let y = w.longer in omega (arith, x, y));
   others = λ k none. w.others k none ∙ v.others k none;
-  grows = λ k past here. elim (cases_lt k (length b)) [ | inl before ↦ v.grows k past before | inr after ↦ w.grows k after here ];
+  grows = λ k past here. elim (cases_lt k (length b)) [ inl before ↦ v.grows k past before | inr after ↦ w.grows k after here ];
 }

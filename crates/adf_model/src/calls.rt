@@ -24,12 +24,14 @@ pub trait TreeCalls {
         requires ready { is_ready self.old }
         ensures ready { is_ready self.new }
         ensures trees { IsTold (files self.old) (devices self.old) → AreTrees (files self.old) }
-        ensures asked { Makes (files self.old) (devices self.old) (Asked query.now result) (devices self.new) (files self.new) };
+        ensures asked { Makes (files self.old) (devices self.old) (Asked query.now result)
+            (devices self.new) (files self.new) };
 
     /// Does all edits of a group, or none.
     fn edit(&mut self, edits: &[Edit]) -> Result<Serials, EditError>
         requires ready { is_ready self.old }
         ensures ready { is_ready self.new }
         ensures trees { IsTold (files self.old) (devices self.old) → AreTrees (files self.old) }
-        ensures edited { Makes (files self.old) (devices self.old) (Changed edits.now result) (devices self.new) (files self.new) };
+        ensures edited { Makes (files self.old) (devices self.old) (Changed edits.now result)
+            (devices self.new) (files self.new) };
 }

@@ -12,29 +12,48 @@ ghost use Rattle.adf_model.specs.Creation.{IsCreation, WritesAll, AllFillers, cr
 /// A child that is created keeps a file a layout of its tree, where all its gaps are fillers: all is taken
 /// behind the end, and a table that is given becomes filler. The writes may come in any order, since no two meet.
 pub fn created_child_is_laid_out()
-    ensures laid_out { (limit : ℕ) (image new : List ℕ) (tree after : Tree) (p q : Placement) (at : NodeId) (name label : List ℕ) → IsCreation limit image tree after p q at name label →
-        WritesAll (create_writes image tree p q at.serial name label) image new → LaysOut new after q }
-    ensures written { (limit : ℕ) (image : List ℕ) (tree after : Tree) (p q : Placement) (at : NodeId) (name label : List ℕ) → IsCreation limit image tree after p q at name label →
-        WritesAll (create_writes image tree p q at.serial name label) image (all_written image (create_writes image tree p q at.serial name label)) }
-    ensures fillers { (limit : ℕ) (image : List ℕ) (tree after : Tree) (p q : Placement) (at : NodeId) (name label : List ℕ) → IsCreation limit image tree after p q at name label →
+    ensures laid_out { (limit : ℕ) (image new : List ℕ) (tree after : Tree) (p q : Placement)
+        (at : NodeId) (name label : List ℕ) → IsCreation limit image tree after p q at name label →
+        WritesAll (create_writes image tree p q at.serial name label) image new
+        → LaysOut new after q }
+    ensures written { (limit : ℕ) (image : List ℕ) (tree after : Tree) (p q : Placement)
+        (at : NodeId) (name label : List ℕ) → IsCreation limit image tree after p q at name label →
+        WritesAll (create_writes image tree p q at.serial name label) image
+        (all_written image (create_writes image tree p q at.serial name label)) }
+    ensures fillers { (limit : ℕ) (image : List ℕ) (tree after : Tree) (p q : Placement)
+        (at : NodeId) (name label : List ℕ) → IsCreation limit image tree after p q at name label →
         AllFillers q.heap.gaps }
 {}
 
 /// A created child has the next serial, is the last child of its parent and stands one step below it. All
 /// other nodes are as before, and so is who stands above whom.
 pub fn created_child_in_its_tree()
-    ensures serial { (tree after : Tree) (at : NodeId) (name label : List ℕ) → IsTree tree → IsReached tree (Edit.Create at name label) → apply tree (Edit.Create at name label) ≡ Ok after →
+    ensures serial { (tree after : Tree) (at : NodeId) (name label : List ℕ) → IsTree tree
+        → IsReached tree (Edit.Create at name label)
+        → apply tree (Edit.Create at name label) ≡ Ok after →
         next_serial after ≡ suc (next_serial tree) }
-    ensures node { (tree after : Tree) (at : NodeId) (name label : List ℕ) → IsTree tree → IsReached tree (Edit.Create at name label) → apply tree (Edit.Create at name label) ≡ Ok after →
+    ensures node { (tree after : Tree) (at : NodeId) (name label : List ℕ) → IsTree tree
+        → IsReached tree (Edit.Create at name label)
+        → apply tree (Edit.Create at name label) ≡ Ok after →
         node_at after (next_serial tree) ≡ Some (new_node name label) }
-    ensures last { (tree after : Tree) (at : NodeId) (name label : List ℕ) → IsTree tree → IsReached tree (Edit.Create at name label) → apply tree (Edit.Create at name label) ≡ Ok after →
+    ensures last { (tree after : Tree) (at : NodeId) (name label : List ℕ) → IsTree tree
+        → IsReached tree (Edit.Create at name label)
+        → apply tree (Edit.Create at name label) ≡ Ok after →
         children_at after at.serial ≡ children_at tree at.serial ++ next_serial tree ∷ [] }
-    ensures others { (tree after : Tree) (at : NodeId) (name label : List ℕ) → IsTree tree → IsReached tree (Edit.Create at name label) → apply tree (Edit.Create at name label) ≡ Ok after →
+    ensures others { (tree after : Tree) (at : NodeId) (name label : List ℕ) → IsTree tree
+        → IsReached tree (Edit.Create at name label)
+        → apply tree (Edit.Create at name label) ≡ Ok after →
         (k : ℕ) → k ≢ at.serial → k ≢ next_serial tree → node_at after k ≡ node_at tree k }
-    ensures above { (tree after : Tree) (at : NodeId) (name label : List ℕ) → IsTree tree → IsReached tree (Edit.Create at name label) → apply tree (Edit.Create at name label) ≡ Ok after →
+    ensures above { (tree after : Tree) (at : NodeId) (name label : List ℕ) → IsTree tree
+        → IsReached tree (Edit.Create at name label)
+        → apply tree (Edit.Create at name label) ≡ Ok after →
         (k : ℕ) → is_live tree k ≡ true → lineage after k ≡ lineage tree k }
-    ensures parent { (tree after : Tree) (at : NodeId) (name label : List ℕ) → IsTree tree → IsReached tree (Edit.Create at name label) → apply tree (Edit.Create at name label) ≡ Ok after →
+    ensures parent { (tree after : Tree) (at : NodeId) (name label : List ℕ) → IsTree tree
+        → IsReached tree (Edit.Create at name label)
+        → apply tree (Edit.Create at name label) ≡ Ok after →
         lineage after (next_serial tree) ≡ next_serial tree ∷ lineage tree at.serial }
-    ensures depth { (tree after : Tree) (at : NodeId) (name label : List ℕ) → IsTree tree → IsReached tree (Edit.Create at name label) → apply tree (Edit.Create at name label) ≡ Ok after →
+    ensures depth { (tree after : Tree) (at : NodeId) (name label : List ℕ) → IsTree tree
+        → IsReached tree (Edit.Create at name label)
+        → apply tree (Edit.Create at name label) ≡ Ok after →
         depth_of after (next_serial tree) ≡ suc (depth_of tree at.serial) }
 {}

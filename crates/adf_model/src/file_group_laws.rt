@@ -15,23 +15,39 @@ ghost use Rattle.adf_model.specs.FileGroup.{is_of_many_files, IsFileGroup, FileG
 /// A group without edits is answered at once, on a broken file too; and a broken file refuses the first
 /// edit of any other.
 pub fn few_edits_and_broken_files()
-    ensures empty { (slot after : Slot) (before now : Device) (result : Result (List NodeId) EditError) → IsFileGroup slot before [] result now after →
+    ensures empty { (slot after : Slot) (before now : Device)
+        (result : Result (List NodeId) EditError) → IsFileGroup slot before [] result now after →
         (result ≡ Ok []) × (after ≡ slot) × OnlyRead before now }
-    ensures broken { (after : Slot) (before now : Device) (edit : Edit) (edits : List Edit) (result : Result (List NodeId) EditError) → IsFileGroup Slot.Broken before (edit ∷ edits) result now after →
-        (result ≡ Err (record { at = 0; error = AdfError.Broken })) ⊎ (result ≡ Err (record { at = 0; error = AdfError.Memory })) }
+    ensures broken { (after : Slot) (before now : Device) (edit : Edit) (edits : List Edit)
+        (result : Result (List NodeId) EditError)
+        → IsFileGroup Slot.Broken before (edit ∷ edits) result now after →
+        (result ≡ Err (record { at = 0; error = AdfError.Broken }))
+        ⊎ (result ≡ Err (record { at = 0; error = AdfError.Memory })) }
 {}
 
 /// A file is left as it was by each refusal but that of a failed write, after which it is broken; and it
 /// is answered of faults under its own counts.
 pub fn file_groups_have_causes()
-    ensures stays { (opened : Open) (after : Slot) (before now : Device) (edits : List Edit) (at : ℕ) (error : AdfError) → IsFileGroup (Live opened) before edits (Err (record { at = at; error = error })) now after →
+    ensures stays { (opened : Open) (after : Slot) (before now : Device) (edits : List Edit)
+        (at : ℕ) (error : AdfError)
+        → IsFileGroup (Live opened) before edits (Err (record { at = at; error = error })) now after
+        →
         (error ≡ AdfError.WriteFault) ⊎ ((after ≡ Live opened) × OnlyRead before now) }
-    ensures breaks { (opened : Open) (after : Slot) (before now : Device) (edits : List Edit) (at : ℕ) → IsFileGroup (Live opened) before edits (Err (record { at = at; error = AdfError.WriteFault })) now after →
+    ensures breaks { (opened : Open) (after : Slot) (before now : Device) (edits : List Edit)
+        (at : ℕ) → IsFileGroup (Live opened) before edits
+        (Err (record { at = at; error = AdfError.WriteFault })) now after →
         (after ≡ Slot.Broken) × WriteFailed before now }
-    ensures reads { (opened : Open) (after : Slot) (before now : Device) (edits : List Edit) (at : ℕ) → IsFileGroup (Live opened) before edits (Err (record { at = at; error = AdfError.ReadFault })) now after →
+    ensures reads { (opened : Open) (after : Slot) (before now : Device) (edits : List Edit)
+        (at : ℕ) → IsFileGroup (Live opened) before edits
+        (Err (record { at = at; error = AdfError.ReadFault })) now after →
         Rose before.faults now.faults }
-    ensures silent { (standing after : Standing) (before now : Device) (edits : List Edit) (at : ℕ) → FileGroupAnyway standing before edits (Err (record { at = at; error = AdfError.ReadFault })) now after →
+    ensures silent { (standing after : Standing) (before now : Device) (edits : List Edit) (at : ℕ)
+        → FileGroupAnyway standing before edits
+        (Err (record { at = at; error = AdfError.ReadFault })) now after →
         Rose before.faults now.faults }
-    ensures own { (standing after : Standing) (before now : Device) (edits : List Edit) (at : ℕ) (error : AdfError) → FileGroupAnyway standing before edits (Err (record { at = at; error = error })) now after →
+    ensures own { (standing after : Standing) (before now : Device) (edits : List Edit) (at : ℕ)
+        (error : AdfError)
+        → FileGroupAnyway standing before edits (Err (record { at = at; error = error })) now after
+        →
         is_of_many_files error ≡ false }
 {}

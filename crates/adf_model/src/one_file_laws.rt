@@ -16,20 +16,32 @@ ghost use Rattle.adf_model.specs.OneFile.{StandsIn, outcome_of_group, outcome_of
 /// that file's tree: the same refusal at the same edit, or the same tree and the same nodes made;
 /// and all other files stay. So does an edit that is reached through links, on the nodes reached.
 pub fn one_file_as_many()
-    ensures step { (group : Group) (number : ℕ) (opened : Open) (edit : Edit) → open_at group.files number ≡ Some opened → (group.file ≡ None) ⊎ (group.file ≡ Some number) → StandsIn number edit →
+    ensures step { (group : Group) (number : ℕ) (opened : Open) (edit : Edit)
+        → open_at group.files number ≡ Some opened
+        → (group.file ≡ None) ⊎ (group.file ≡ Some number) → StandsIn number edit →
         file_step opened.writable opened.tree edit ≢ Err AdfError.LinkMissing →
-        group_step group edit ≡ and_then (file_step opened.writable opened.tree edit) (λ tree. Ok (group_after group number opened edit tree)) }
-    ensures reached { (group : Group) (number : ℕ) (opened : Open) (edit reached : Edit) → AreTrees group.files → first_refusal (tests_at_entry group.files (named_nodes edit)) ≡ None → resolve group.files edit ≡ Ok reached →
-        open_at group.files number ≡ Some opened → (group.file ≡ None) ⊎ (group.file ≡ Some number) → StandsIn number reached →
-        group_step group edit ≡ and_then (file_step opened.writable opened.tree reached) (λ tree. Ok (group_after group number opened reached tree)) }
-    ensures group { (files : Files) (number : ℕ) (opened : Open) (edits : List Edit) → open_at files number ≡ Some opened → AllByRecursion (StandsIn number) edits →
-        ((at : ℕ) → file_group opened.writable opened.tree edits ≢ Err (record { at = at; error = AdfError.LinkMissing })) →
-        outcome_of_group (edit_group files edits) ≡ outcome_of_work files number opened (file_group opened.writable opened.tree edits) }
+        group_step group edit ≡ and_then (file_step opened.writable opened.tree edit)
+        (λ tree. Ok (group_after group number opened edit tree)) }
+    ensures reached { (group : Group) (number : ℕ) (opened : Open) (edit reached : Edit)
+        → AreTrees group.files → first_refusal (tests_at_entry group.files (named_nodes edit))
+        ≡ None → resolve group.files edit ≡ Ok reached →
+        open_at group.files number ≡ Some opened → (group.file ≡ None) ⊎ (group.file ≡ Some number)
+        → StandsIn number reached →
+        group_step group edit ≡ and_then (file_step opened.writable opened.tree reached)
+        (λ tree. Ok (group_after group number opened reached tree)) }
+    ensures group { (files : Files) (number : ℕ) (opened : Open) (edits : List Edit)
+        → open_at files number ≡ Some opened → AllByRecursion (StandsIn number) edits →
+        ((at : ℕ) → file_group opened.writable opened.tree edits
+        ≢ Err (record { at = at; error = AdfError.LinkMissing })) →
+        outcome_of_group (edit_group files edits)
+        ≡ outcome_of_work files number opened (file_group opened.writable opened.tree edits) }
 {}
 
 /// So it is for a query about a node of one open file that meets no link: it is answered among many files
 /// as it is answered on that file's tree.
 pub fn one_query_as_many()
-    ensures { (files : Files) (number : ℕ) (opened : Open) (query : Query) → open_at files number ≡ Some opened → (asked_node query).file ≡ number →
-        file_answer opened.tree query ≢ Err AdfError.LinkMissing → answer files query ≡ file_answer opened.tree query }
+    ensures { (files : Files) (number : ℕ) (opened : Open) (query : Query)
+        → open_at files number ≡ Some opened → (asked_node query).file ≡ number →
+        file_answer opened.tree query ≢ Err AdfError.LinkMissing
+        → answer files query ≡ file_answer opened.tree query }
 {}

@@ -8,5 +8,7 @@ ghost use Rattle.adf_format.specs.SoundPart.{tree_of};
 
 /// The nodes that are found in an image that breaks no rule make a tree, numbered in tree order.
 pub fn walks_find_trees()
-    ensures { (image : List ℕ) (nodes : List Visit) (frees : List FreeVisit) → HasNoFault image nodes frees → IsTree (tree_of image nodes) × IsNumbered (tree_of image nodes) }
+    ensures { (image : List ℕ) (nodes : List Visit) (frees : List FreeVisit)
+        → HasNoFault image nodes frees → IsTree (tree_of image nodes)
+        × IsNumbered (tree_of image nodes) }
 {}

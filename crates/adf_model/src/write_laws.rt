@@ -19,8 +19,10 @@ ghost use Rattle.adf_model.specs.Steps.{OfGroup, LeavesBesideBlock, AllLaidOut, 
 /// a file of whole blocks that holds its end stays as long.
 pub fn torn_files_stay_small()
     ensures length { (before now : List ℕ) (tree : Tree) (torn : Torn before now tree) →
-        (length before ≤ length now) × (length now ≤ max (length before) ((torn.placement.heap.end / 4096 + 1) * 4096)) }
-    ensures same { (before now : List ℕ) (tree : Tree) (torn : Torn before now tree) (blocks : ℕ) → length before ≡ blocks * 4096 → torn.placement.heap.end < length before →
+        (length before ≤ length now)
+        × (length now ≤ max (length before) ((torn.placement.heap.end / 4096 + 1) * 4096)) }
+    ensures same { (before now : List ℕ) (tree : Tree) (torn : Torn before now tree) (blocks : ℕ)
+        → length before ≡ blocks * 4096 → torn.placement.heap.end < length before →
         length now ≡ length before }
 {}
 
@@ -28,21 +30,31 @@ pub fn torn_files_stay_small()
 /// zero where the file grew; and each byte of a block that was reached is as wanted, but for the one
 /// block whose write failed.
 pub fn torn_files_keep_the_tail()
-    ensures behind { (before now : List ℕ) (tree : Tree) (torn : Torn before now tree) (b : ℕ) → torn.placement.heap.end < b → b / 4096 ≢ torn.number →
+    ensures behind { (before now : List ℕ) (tree : Tree) (torn : Torn before now tree) (b : ℕ)
+        → torn.placement.heap.end < b → b / 4096 ≢ torn.number →
         slice_index_or now b 0 ≡ slice_index_or before b 0 }
-    ensures tail { (before now : List ℕ) (tree : Tree) (torn : Torn before now tree) (b : ℕ) → torn.placement.heap.end < b → b < length before → b / 4096 ≢ torn.number →
+    ensures tail { (before now : List ℕ) (tree : Tree) (torn : Torn before now tree) (b : ℕ)
+        → torn.placement.heap.end < b → b < length before → b / 4096 ≢ torn.number →
         slice_get now b ≡ slice_get before b }
-    ensures written { (before now : List ℕ) (tree : Tree) (torn : Torn before now tree) (b : ℕ) → b < length torn.wanted → b < length now → b / 4096 < torn.number →
+    ensures written { (before now : List ℕ) (tree : Tree) (torn : Torn before now tree) (b : ℕ)
+        → b < length torn.wanted → b < length now → b / 4096 < torn.number →
         slice_get now b ≡ slice_get torn.wanted b }
 {}
 
 /// Of each part that no edit of a failed group touches, each byte outside the one torn block is as
 /// before; and a block that lies in such a part is not the torn one.
 pub fn failed_groups_leave_the_rest()
-    ensures beside { (limit : ℕ) (tree : Tree) (p : Placement) (done : List (Edit × Tree)) (after : Tree) (old new : List ℕ) (torn : TornGroup limit tree p done after old new) → LaysOut old tree p →
+    ensures beside { (limit : ℕ) (tree : Tree) (p : Placement) (done : List (Edit × Tree))
+        (after : Tree) (old new : List ℕ) (torn : TornGroup limit tree p done after old new)
+        → LaysOut old tree p →
         StaysBeside torn.file.number (group_touched limit tree p done) tree.wide p old new }
-    ensures elsewhere { (limit : ℕ) (tree : Tree) (p : Placement) (done : List (Edit × Tree)) (after : Tree) (old new : List ℕ) (torn : TornGroup limit tree p done after old new) (e : Extent) →
-        Contains (live_extents tree.wide p) e → (Contains (group_touched limit tree p done) e → ⊥) → e.place ≤ torn.file.number * 4096 → torn.file.number * 4096 + 4096 ≤ end_of e → ⊥ }
-    ensures group { (files after : Files) (before now : Devices) (edits : List Edit) (at : ℕ) → AllLaidOut files before →
-        IsEdit files before edits (Err (record { at = at; error = AdfError.WriteFault })) now after → OfGroup files edits (LeavesBesideBlock before now) }
+    ensures elsewhere { (limit : ℕ) (tree : Tree) (p : Placement) (done : List (Edit × Tree))
+        (after : Tree) (old new : List ℕ) (torn : TornGroup limit tree p done after old new)
+        (e : Extent) →
+        Contains (live_extents tree.wide p) e → (Contains (group_touched limit tree p done) e → ⊥)
+        → e.place ≤ torn.file.number * 4096 → torn.file.number * 4096 + 4096 ≤ end_of e → ⊥ }
+    ensures group { (files after : Files) (before now : Devices) (edits : List Edit) (at : ℕ)
+        → AllLaidOut files before →
+        IsEdit files before edits (Err (record { at = at; error = AdfError.WriteFault })) now after
+        → OfGroup files edits (LeavesBesideBlock before now) }
 {}

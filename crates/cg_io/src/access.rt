@@ -16,7 +16,8 @@ pub fn read_bytes<R: ReadBytes, const N: usize>(
     requires within { place + N ≤ 2 ^ 44 }
     ensures told { IfOk result (GivesAt (R.image bytes.old) place) }
     ensures long { IfOk result (λ read. length read ≡ N) }
-    ensures reads { AnswersRead R.is_sound R.image R.state R.waiting (ReadsFew (blocks_of place N)) HasRisen bytes.old bytes.new result }
+    ensures reads { AnswersRead R.is_sound R.image R.state R.waiting
+        (ReadsFew (blocks_of place N)) HasRisen bytes.old bytes.new result }
 {
     let mut read = [0u8; N];
     match bytes.read(place, &mut read) {
@@ -30,9 +31,12 @@ pub fn read_bytes<R: ReadBytes, const N: usize>(
 pub fn write_bytes<S: Space>(space: &mut S, place: u64, from: &[u8]) -> Result<(), AdfError>
     requires sound { S.is_sound space.old }
     requires within { place + length from.now ≤ 2 ^ 44 }
-    ensures written { OnOk result (Both (Wrote place from.now) (S.image space.old) (S.image space.new)) }
-    ensures bytes { Both (KeepsOutside place (length from.now)) (S.image space.old) (S.image space.new) }
-    ensures writes { AnswersWrite S.is_sound S.state S.waiting (blocks_of place (length from.now)) (ReadsFew (blocks_of place (length from.now))) (IsRefusal ⊥) space.old space.new result }
+    ensures written { OnOk result (Both (Wrote place from.now) (S.image space.old)
+        (S.image space.new)) }
+    ensures bytes { Both (KeepsOutside place (length from.now)) (S.image space.old)
+        (S.image space.new) }
+    ensures writes { AnswersWrite S.is_sound S.state S.waiting (blocks_of place (length from.now))
+        (ReadsFew (blocks_of place (length from.now))) (IsRefusal ⊥) space.old space.new result }
 {
     match space.write(place, from) {
         Ok(()) => Ok(()),

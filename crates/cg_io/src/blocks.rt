@@ -46,7 +46,8 @@ pub trait Blocks: Drop {
     fn write_block(&mut self, n: u32, from: &[u8; 4096]) -> Result<(), BlockFault>
         requires { is_sound self.old }
         ensures sound { is_sound self.new }
-        ensures written { OnOk result ((state self.new).held ≡ with_block (state self.old).held n from.now) }
+        ensures written { OnOk result ((state self.new).held
+            ≡ with_block (state self.old).held n from.now) }
         ensures torn { OnErr result (Tears (state self.old).held n (state self.new).held) }
         ensures effect { Writes (state self.old) (state self.new) }
         ensures cause { HasCause (state self.old).faults (state self.new).faults result }

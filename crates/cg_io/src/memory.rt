@@ -45,7 +45,15 @@ impl MemoryDevice {
     /// A device of these bytes, none of whose calls is to fail.
     pub fn new(alloc: Global, bytes: Text) -> MemoryDevice
         requires { length bytes ≤ 2 ^ 44 }
-        ensures { result ≡ record { bytes = bytes; faults = 0; lost = 0; reads = 0; writes = 0; failing_reads = []; failing_writes = [] } }
+        ensures { result ≡ record {
+          bytes = bytes;
+          faults = 0;
+          lost = 0;
+          reads = 0;
+          writes = 0;
+          failing_reads = [];
+          failing_writes = [];
+        } }
     {
         MemoryDevice {
             bytes: bytes.into_items(),
@@ -60,7 +68,8 @@ impl MemoryDevice {
 
     /// Lists the k-th read, from 1, to fail.
     pub fn fail_read(&mut self, k: u64) -> Result<(), AdfError>
-        ensures ok { OnOk result (self.new ≡ record self.old { failing_reads = self.old.failing_reads ++ k ∷ [] }) }
+        ensures ok { OnOk result (self.new
+            ≡ record self.old { failing_reads = self.old.failing_reads ++ k ∷ [] }) }
         ensures err { OnErr result (self.new ≡ self.old) }
         ensures memory { IfErr result (λ e. e ≡ AdfError.Memory) }
     {
@@ -71,7 +80,8 @@ impl MemoryDevice {
     /// Lists the k-th write, from 1, to fail after these first bytes of its block.
     pub fn fail_write(&mut self, k: u64, kept: u16) -> Result<(), AdfError>
         requires { kept ≤ 4096 }
-        ensures ok { OnOk result (self.new ≡ record self.old { failing_writes = self.old.failing_writes ++ (k, kept) ∷ [] }) }
+        ensures ok { OnOk result (self.new
+            ≡ record self.old { failing_writes = self.old.failing_writes ++ (k, kept) ∷ [] }) }
         ensures err { OnErr result (self.new ≡ self.old) }
         ensures memory { IfErr result (λ e. e ≡ AdfError.Memory) }
     {
@@ -107,7 +117,8 @@ impl MemoryDevice {
         ensures cause { HasCause self.old.faults self.new.faults result }
         ensures fails { IsErr result ↔ Contains self.old.failing_reads (raised self.old.reads) }
         ensures counts { CountsFailures self.old.faults self.new.faults result }
-        ensures lists { (self.new.failing_reads ≡ self.old.failing_reads) × (self.new.failing_writes ≡ self.old.failing_writes) }
+        ensures lists { (self.new.failing_reads ≡ self.old.failing_reads)
+            × (self.new.failing_writes ≡ self.old.failing_writes) }
     {
         self.reads = self.reads.saturating_add(1);
         if self.failing_reads.contains(&self.reads) {
@@ -137,7 +148,8 @@ impl Device for MemoryDevice {
         ensures cause { HasCause self.old.faults self.new.faults result }
         ensures fails { IsErr result ↔ Contains self.old.failing_reads (raised self.old.reads) }
         ensures counts { CountsFailures self.old.faults self.new.faults result }
-        ensures lists { (self.new.failing_reads ≡ self.old.failing_reads) × (self.new.failing_writes ≡ self.old.failing_writes) }
+        ensures lists { (self.new.failing_reads ≡ self.old.failing_reads)
+            × (self.new.failing_writes ≡ self.old.failing_writes) }
     {
         self.count_read()?;
         Ok(self.bytes.len() as u64)
@@ -149,7 +161,8 @@ impl Device for MemoryDevice {
         ensures cause { HasCause self.old.faults self.new.faults result }
         ensures fails { IsErr result ↔ Contains self.old.failing_reads (raised self.old.reads) }
         ensures counts { CountsFailures self.old.faults self.new.faults result }
-        ensures lists { (self.new.failing_reads ≡ self.old.failing_reads) × (self.new.failing_writes ≡ self.old.failing_writes) }
+        ensures lists { (self.new.failing_reads ≡ self.old.failing_reads)
+            × (self.new.failing_writes ≡ self.old.failing_writes) }
     {
         self.count_read()?;
         read_at(&self.bytes, n as usize * 4096, into);
@@ -157,16 +170,23 @@ impl Device for MemoryDevice {
     }
 
     fn write_block(&mut self, n: u32, from: &[u8; 4096]) -> Result<(), DeviceFault>
-        ensures written { OnOk result (Some self.new.bytes ≡ with_block (Some self.old.bytes) n from.now) }
+        ensures written { OnOk result (Some self.new.bytes
+            ≡ with_block (Some self.old.bytes) n from.now) }
         ensures torn { OnErr result (Tears (Some self.old.bytes) n (Some self.new.bytes)) }
         ensures effect { Writes (device_of self.old) (device_of self.new) }
         ensures cause { HasCause self.old.faults self.new.faults result }
         ensures lost { HasCause self.old.lost self.new.lost result }
-        ensures counts { CountsFailures self.old.faults self.new.faults result × CountsFailures self.old.lost self.new.lost result }
-        ensures listed { IfSome (kept_of self.old.failing_writes (raised self.old.writes)) (λ kept. IsErr result × LeavesTorn self.old.bytes (n * 4096) from.now kept self.new.bytes) }
-        ensures unlisted { IsErr result → kept_of self.old.failing_writes (raised self.old.writes) ≡ None → self.new.bytes ≡ self.old.bytes }
-        ensures fails { IsErr result → IsSome (kept_of self.old.failing_writes (raised self.old.writes)) ⊎ (length self.old.bytes < n * 4096 + 4096) }
-        ensures lists { (self.new.failing_reads ≡ self.old.failing_reads) × (self.new.failing_writes ≡ self.old.failing_writes) }
+        ensures counts { CountsFailures self.old.faults self.new.faults result
+            × CountsFailures self.old.lost self.new.lost result }
+        ensures listed { IfSome (kept_of self.old.failing_writes (raised self.old.writes))
+            (λ kept. IsErr result
+            × LeavesTorn self.old.bytes (n * 4096) from.now kept self.new.bytes) }
+        ensures unlisted { IsErr result → kept_of self.old.failing_writes (raised self.old.writes)
+            ≡ None → self.new.bytes ≡ self.old.bytes }
+        ensures fails { IsErr result → IsSome (kept_of self.old.failing_writes
+            (raised self.old.writes)) ⊎ (length self.old.bytes < n * 4096 + 4096) }
+        ensures lists { (self.new.failing_reads ≡ self.old.failing_reads)
+            × (self.new.failing_writes ≡ self.old.failing_writes) }
     {
         self.writes = self.writes.saturating_add(1);
         let at = n as usize * 4096;
@@ -183,10 +203,13 @@ impl Device for MemoryDevice {
 // Writes the block, or what it keeps of it; whether it was written.
 fn write_or_tear(bytes: &mut Vec<u8>, at: usize, from: &[u8; 4096], kept: Option<u16>) -> bool
     requires small { at ≤ 2 ^ 44 }
-    ensures written { result ≡ true → (bytes.new.items ≡ overwritten bytes.old.items at from.now) × (kept ≡ None) }
-    ensures listed { IfSome kept (λ k. (result ≡ false) × LeavesTorn bytes.old.items at from.now k bytes.new.items) }
+    ensures written { result ≡ true → (bytes.new.items ≡ overwritten bytes.old.items at from.now)
+        × (kept ≡ None) }
+    ensures listed { IfSome kept (λ k. (result ≡ false)
+        × LeavesTorn bytes.old.items at from.now k bytes.new.items) }
     ensures len { length bytes.new.items ≤ max (length bytes.old.items) (at + 4096) }
-    ensures none { result ≡ false → kept ≡ None → (bytes.new.items ≡ bytes.old.items) × (length bytes.old.items < at + 4096) }
+    ensures none { result ≡ false → kept ≡ None
+        → (bytes.new.items ≡ bytes.old.items) × (length bytes.old.items < at + 4096) }
 {
     match kept {
         None => store(bytes, at, from).is_ok(),

@@ -27,7 +27,12 @@ impl Model for MemorySource {
 
     ghost Value = { SourceState };
 
-    ghost view = { λ s. record { left = drop s.at s.bytes.items; calls = s.calls; faults = s.faults; failing = s.failing } };
+    ghost view = { λ s. record {
+      left = drop s.at s.bytes.items;
+      calls = s.calls;
+      faults = s.faults;
+      failing = s.failing;
+    } };
 
     ghost invariant = { λ s. s.at ≤ length s.bytes.items };
 }
@@ -94,7 +99,13 @@ impl Model for MemorySink {
 
     ghost Value = { SinkState };
 
-    ghost view = { λ s. record { taken = s.taken.items; room = vec_capacity s.taken; calls = s.calls; faults = s.faults; failing = s.failing } };
+    ghost view = { λ s. record {
+      taken = s.taken.items;
+      room = vec_capacity s.taken;
+      calls = s.calls;
+      faults = s.faults;
+      failing = s.failing;
+    } };
 }
 
 impl MemorySink {
@@ -137,7 +148,8 @@ impl Sink for MemorySink {
         ensures bytes { WriteAppends (Some self.old.taken) (Some self.new.taken) result from.now }
         ensures cause { HasCause self.old.faults self.new.faults result }
         ensures listed { self.old.failing ≡ Some (raised self.old.calls) → IsErr result }
-        ensures fails { IsErr result → (self.old.failing ≡ Some (raised self.old.calls)) ⊎ (self.old.room < length self.old.taken + length from.now) }
+        ensures fails { IsErr result → (self.old.failing ≡ Some (raised self.old.calls))
+            ⊎ (self.old.room < length self.old.taken + length from.now) }
         ensures counts { CountsFailures self.old.faults self.new.faults result }
         ensures calls { self.new.calls ≡ raised self.old.calls }
         ensures same { self.new.failing ≡ self.old.failing }

@@ -47,8 +47,10 @@ impl<B: Blocks> Pages<B> {
     pub fn length(&mut self) -> Result<u64, ReadFault>
         requires { ArePages B.is_sound B.state self.old }
         ensures bound { IfOk result (λ n. n ≤ 2 ^ 44) }
-        ensures told { IfOk result (λ n. IfSome (held_under B.state self.old) (λ bytes. n ≡ length bytes)) }
-        ensures reads { AnswersRead (ArePages B.is_sound B.state) (held_under B.state) (state_under B.state) (λ _. 0) (ReadsFew 1) HasRisen self.old self.new result }
+        ensures told { IfOk result (λ n. IfSome (held_under B.state self.old) (λ bytes. n
+            ≡ length bytes)) }
+        ensures reads { AnswersRead (ArePages B.is_sound B.state) (held_under B.state)
+            (state_under B.state) (λ _. 0) (ReadsFew 1) HasRisen self.old self.new result }
     {
         match self.blocks.length() {
             Ok(n) => Ok(n),
@@ -66,7 +68,8 @@ fn turn_to<B: Blocks>(blocks: &mut B, page: &mut Page, n: u32) -> Result<(), Rea
     ensures told { OnOk result (Gives (B.state blocks.old).held n page.new.bytes) }
     ensures long { length page.new.bytes ≡ 4096 }
     ensures effect { ReadsFew 1 (B.state blocks.old) (B.state blocks.new) }
-    ensures cause { IfErr result (HasRisen (B.state blocks.old).faults (B.state blocks.new).faults) }
+    ensures cause { IfErr result (HasRisen (B.state blocks.old).faults
+        (B.state blocks.new).faults) }
 {
     if let Some(number) = page.number
         && number == n

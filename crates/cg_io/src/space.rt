@@ -42,7 +42,8 @@ pub trait ReadBytes: Drop {
         requires sound { is_sound self.old }
         requires within { place + length into.old ≤ 2 ^ 44 }
         ensures told { OnOk result (GivesAt (image self.old) place into.new) }
-        ensures reads { AnswersRead is_sound image state waiting (ReadsFew (blocks_of place (length into.old))) HasRisen self.old self.new result };
+        ensures reads { AnswersRead is_sound image state waiting
+            (ReadsFew (blocks_of place (length into.old))) HasRisen self.old self.new result };
 }
 
 /// Why a write of a space failed.
@@ -62,9 +63,14 @@ pub trait Space: ReadBytes {
         requires sound { Self.is_sound self.old }
         requires within { place + length from.now ≤ 2 ^ 44 }
         ensures sound { Self.is_sound self.new }
-        ensures written { OnOk result (Both (Wrote place from.now) (Self.image self.old) (Self.image self.new)) }
-        ensures refused { OnErr result (Both (KeepsOutside place (length from.now)) (Self.image self.old) (Self.image self.new)) }
-        ensures effect { ReadsFew (blocks_of place (length from.now)) (Self.state self.old) (Self.state self.new) }
-        ensures cause { IfErr result (λ e. e ≡ SpaceFault.Read → Rose (Self.state self.old).faults (Self.state self.new).faults) }
-        ensures waiting { Self.waiting self.new ≤ Self.waiting self.old + blocks_of place (length from.now) };
+        ensures written { OnOk result (Both (Wrote place from.now) (Self.image self.old)
+            (Self.image self.new)) }
+        ensures refused { OnErr result (Both (KeepsOutside place (length from.now))
+            (Self.image self.old) (Self.image self.new)) }
+        ensures effect { ReadsFew (blocks_of place (length from.now)) (Self.state self.old)
+            (Self.state self.new) }
+        ensures cause { IfErr result (λ e. e ≡ SpaceFault.Read
+            → Rose (Self.state self.old).faults (Self.state self.new).faults) }
+        ensures waiting { Self.waiting self.new
+            ≤ Self.waiting self.old + blocks_of place (length from.now) };
 }

@@ -84,12 +84,15 @@ pub fn chunk_at<R: ReadBytes>(
 ) -> Result<ListedChunk, AdfError>
     requires sound { R.is_sound bytes.old }
     requires within { table.place + 16 + 24 * (position + 1) ≤ 2 ^ 44 }
-    ensures chunk { IfOk result (λ chunk. ReadAt (R.image bytes.old) (table.place + 16 + 24 * position) 24
+    ensures chunk { IfOk result (λ chunk. ReadAt (R.image bytes.old)
+        (table.place + 16 + 24 * position) 24
         (λ entry. chunk_said entry ≡ Some (chunk_view chunk))) }
     ensures near { IfOk result (λ chunk. (chunk.place < 2 ^ 44) × (chunk.tail < 2 ^ 44)) }
-    ensures reads { AnswersRead R.is_sound R.image R.state R.waiting (ReadsFew (blocks_of (table.place + 16 + 24 * position) 24))
+    ensures reads { AnswersRead R.is_sound R.image R.state R.waiting
+        (ReadsFew (blocks_of (table.place + 16 + 24 * position) 24))
         (IsUnread (λ rule at. (rule ≡ 25) × (at ≡ table.place + 16 + 24 * position)
-        × ReadAt (R.image bytes.old) (table.place + 16 + 24 * position) 24 (λ entry. chunk_said entry ≡ None)))
+        × ReadAt (R.image bytes.old) (table.place + 16 + 24 * position) 24
+        (λ entry. chunk_said entry ≡ None)))
         bytes.old bytes.new result }
 {
     let at = table.entry(position);
@@ -117,9 +120,11 @@ pub fn read_chunks<R: ReadBytes>(
     requires within { table.place + 16 + 24 * table.count ≤ 2 ^ 44 }
     requires from { from ≤ table.count }
     ensures count { IfOk result (λ n. n ≡ min (table.count - from) (length piece.old / 24)) }
-    ensures told { IfOk result (λ n. GivesAt (R.image bytes.old) (table.place + 16 + 24 * from) (take (24 * n) piece.new)) }
+    ensures told { IfOk result (λ n. GivesAt (R.image bytes.old) (table.place + 16 + 24 * from)
+        (take (24 * n) piece.new)) }
     ensures reads { AnswersRead R.is_sound R.image R.state R.waiting
-        (ReadsFew (blocks_of (table.place + 16 + 24 * from) (24 * min (table.count - from) (length piece.old / 24))))
+        (ReadsFew (blocks_of (table.place + 16 + 24 * from)
+        (24 * min (table.count - from) (length piece.old / 24))))
         HasRisen bytes.old bytes.new result }
 {
     let n = usize::from(table.count - from).min(piece.len() / CHUNK_ENTRY_LENGTH);
@@ -135,11 +140,13 @@ pub fn read_chunk_head<R: ReadBytes>(bytes: &mut R, place: u64) -> Result<Listed
     requires sound { R.is_sound bytes.old }
     requires within { place + 16 ≤ 2 ^ 44 }
     ensures chunk { IfOk result (λ chunk. ReadAt (R.image bytes.old) place 16 (λ head.
-        (first_broken (chunk_head_rows place head) ≡ None) × (chunk.tail ≡ place_of (field_in head HEAD_POINTER)))) }
+        (first_broken (chunk_head_rows place head) ≡ None)
+        × (chunk.tail ≡ place_of (field_in head HEAD_POINTER)))) }
     ensures place { IfOk result (λ chunk. chunk.place ≡ place) }
     ensures long { IfOk result (λ chunk. (place + 17 ≤ chunk.tail) × (chunk.tail < 2 ^ 44)) }
     ensures reads { AnswersRead R.is_sound R.image R.state R.waiting (ReadsFew (blocks_of place 16))
-        (IsUnread (Breaks (R.image bytes.old) place 16 (chunk_head_rows place))) bytes.old bytes.new result }
+        (IsUnread (Breaks (R.image bytes.old) place 16 (chunk_head_rows place))) bytes.old bytes.new
+        result }
 {
     let head = match read_bytes::<R, 16>(bytes, place) {
         Ok(head) => head,

@@ -58,12 +58,15 @@ pub fn child_at<R: ReadBytes>(
 ) -> Result<ListedChild, AdfError>
     requires sound { R.is_sound bytes.old }
     requires within { table.place + 16 + 44 * (position + 1) ≤ 2 ^ 44 }
-    ensures child { IfOk result (λ child. ReadAt (R.image bytes.old) (table.place + 16 + 44 * position) 44
+    ensures child { IfOk result (λ child. ReadAt (R.image bytes.old)
+        (table.place + 16 + 44 * position) 44
         (λ entry. child_said entry ≡ Some (child_view child))) }
     ensures near { IfOk result (λ child. child.place < 2 ^ 44) }
-    ensures reads { AnswersRead R.is_sound R.image R.state R.waiting (ReadsFew (blocks_of (table.place + 16 + 44 * position) 44))
+    ensures reads { AnswersRead R.is_sound R.image R.state R.waiting
+        (ReadsFew (blocks_of (table.place + 16 + 44 * position) 44))
         (IsUnread (λ rule at. (rule ≡ 24) × (at ≡ table.place + 16 + 44 * position)
-        × ReadAt (R.image bytes.old) (table.place + 16 + 44 * position) 44 (λ entry. child_said entry ≡ None)))
+        × ReadAt (R.image bytes.old) (table.place + 16 + 44 * position) 44
+        (λ entry. child_said entry ≡ None)))
         bytes.old bytes.new result }
 {
     let at = table.entry(position);
@@ -91,9 +94,11 @@ pub fn read_children<R: ReadBytes>(
     requires within { table.place + 16 + 44 * table.count ≤ 2 ^ 44 }
     requires from { from ≤ table.count }
     ensures count { IfOk result (λ n. n ≡ min (table.count - from) (length piece.old / 44)) }
-    ensures told { IfOk result (λ n. GivesAt (R.image bytes.old) (table.place + 16 + 44 * from) (take (44 * n) piece.new)) }
+    ensures told { IfOk result (λ n. GivesAt (R.image bytes.old) (table.place + 16 + 44 * from)
+        (take (44 * n) piece.new)) }
     ensures reads { AnswersRead R.is_sound R.image R.state R.waiting
-        (ReadsFew (blocks_of (table.place + 16 + 44 * from) (44 * min (table.count - from) (length piece.old / 44))))
+        (ReadsFew (blocks_of (table.place + 16 + 44 * from)
+        (44 * min (table.count - from) (length piece.old / 44))))
         HasRisen bytes.old bytes.new result }
 {
     let n = ((table.count - from) as usize).min(piece.len() / ENTRY_LENGTH);

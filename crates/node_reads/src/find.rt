@@ -49,7 +49,8 @@ pub fn name_field(name: &[u8]) -> [u8; 32]
 fn first_in(piece: &[u8], from: u32, to: u32, wanted: &Wanted) -> Option<u32>
     requires order { from ≤ to }
     requires within { 44 * (to - from) ≤ length piece.now }
-    ensures { IsFirst (λ i. is_wanted wanted.now (field piece.now (44 * (i - from)) 44)) from to result }
+    ensures { IsFirst (λ i. is_wanted wanted.now (field piece.now (44 * (i - from)) 44)) from to
+        result }
 {
     for position in from..to {
         let at = ENTRY_LENGTH * (position - from) as usize;
@@ -68,11 +69,14 @@ pub fn find_entry<R: ReadBytes>(
 ) -> Result<Option<u32>, ReadFault>
     requires sound { R.is_sound bytes.old }
     requires within { table.place + 16 + 44 * table.count ≤ 2 ^ 44 }
-    ensures told { IfOk result (λ found. IfSome (R.image bytes.old) (λ image. table.place + 16 + 44 * table.count ≤ length image
+    ensures told { IfOk result (λ found. IfSome (R.image bytes.old)
+        (λ image. table.place + 16 + 44 * table.count ≤ length image
         → IsFirst (is_wanted_at wanted.now image table.place) 0 table.count found)) }
     ensures below { IfOk result (λ found. IfSome found (λ i. i < table.count)) }
-    ensures soon { IfOk result (λ found. IfSome found (λ i. ReadsFew (2 * (i / 93 + 1)) (R.state bytes.old) (R.state bytes.new))) }
-    ensures reads { AnswersRead R.is_sound R.image R.state R.waiting (ReadsFew (2 * pieces_of table.count)) HasRisen
+    ensures soon { IfOk result (λ found. IfSome found
+        (λ i. ReadsFew (2 * (i / 93 + 1)) (R.state bytes.old) (R.state bytes.new))) }
+    ensures reads { AnswersRead R.is_sound R.image R.state R.waiting
+        (ReadsFew (2 * pieces_of table.count)) HasRisen
         bytes.old bytes.new result }
 {
     let mut piece = [0u8; 4092];

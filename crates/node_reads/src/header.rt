@@ -41,12 +41,14 @@ fn header_at<R: ReadBytes, const N: usize>(
     requires sound { R.is_sound bytes.old }
     requires long { N ≡ node_length wide }
     requires within { place + N ≤ 2 ^ 44 }
-    ensures header { IfOk result (λ h. ReadAt (R.image bytes.old) place N (IsHeader wide place entry.now h)) }
+    ensures header { IfOk result (λ h. ReadAt (R.image bytes.old) place N
+        (IsHeader wide place entry.now h)) }
     ensures offsets { IfOk result HasOffsets }
     ensures narrow { IfOk result IsNarrow }
     ensures wide { IfOk result (λ h. h.wide ≡ wide) }
     ensures reads { AnswersRead R.is_sound R.image R.state R.waiting (ReadsFew (blocks_of place N))
-        (IsUnread (Breaks (R.image bytes.old) place N (header_rows wide place entry.now))) bytes.old bytes.new result }
+        (IsUnread (Breaks (R.image bytes.old) place N (header_rows wide place entry.now))) bytes.old
+        bytes.new result }
 {
     let header = match read_bytes::<R, N>(bytes, place) {
         Ok(header) => header,
@@ -72,12 +74,15 @@ pub fn read_named_header<R: ReadBytes>(
 ) -> Result<NodeHeader, AdfError>
     requires sound { R.is_sound bytes.old }
     requires within { place + node_length wide ≤ 2 ^ 44 }
-    ensures header { IfOk result (λ h. ReadAt (R.image bytes.old) place (node_length wide) (IsHeader wide place entry.now h)) }
+    ensures header { IfOk result (λ h. ReadAt (R.image bytes.old) place (node_length wide)
+        (IsHeader wide place entry.now h)) }
     ensures offsets { IfOk result HasOffsets }
     ensures narrow { IfOk result IsNarrow }
     ensures wide { IfOk result (λ h. h.wide ≡ wide) }
-    ensures reads { AnswersRead R.is_sound R.image R.state R.waiting (ReadsFew (blocks_of place (node_length wide)))
-        (IsUnread (Breaks (R.image bytes.old) place (node_length wide) (header_rows wide place entry.now)))
+    ensures reads { AnswersRead R.is_sound R.image R.state R.waiting
+        (ReadsFew (blocks_of place (node_length wide)))
+        (IsUnread (Breaks (R.image bytes.old) place (node_length wide)
+        (header_rows wide place entry.now)))
         bytes.old bytes.new result }
 {
     if wide {
@@ -95,12 +100,15 @@ pub fn read_header<R: ReadBytes>(
 ) -> Result<NodeHeader, AdfError>
     requires sound { R.is_sound bytes.old }
     requires within { place + node_length wide ≤ 2 ^ 44 }
-    ensures header { IfOk result (λ h. ReadAt (R.image bytes.old) place (node_length wide) (IsHeader wide place None h)) }
+    ensures header { IfOk result (λ h. ReadAt (R.image bytes.old) place (node_length wide)
+        (IsHeader wide place None h)) }
     ensures offsets { IfOk result HasOffsets }
     ensures narrow { IfOk result IsNarrow }
     ensures wide { IfOk result (λ h. h.wide ≡ wide) }
-    ensures reads { AnswersRead R.is_sound R.image R.state R.waiting (ReadsFew (blocks_of place (node_length wide)))
-        (IsUnread (Breaks (R.image bytes.old) place (node_length wide) (header_rows wide place None)))
+    ensures reads { AnswersRead R.is_sound R.image R.state R.waiting
+        (ReadsFew (blocks_of place (node_length wide)))
+        (IsUnread (Breaks (R.image bytes.old) place (node_length wide)
+        (header_rows wide place None)))
         bytes.old bytes.new result }
 {
     read_named_header(bytes, wide, place, &None)

@@ -12,7 +12,8 @@ use disk_ptr::fields::pointer_at;
 pub fn place_in(bytes: &[u8], at: Field) -> Option<u64>
     requires { at.offset + 12 ≤ length bytes.now }
     ensures value { MatchOption result (is_place (field bytes.now at.offset 12) ≡ false)
-        (λ place. (is_place (field bytes.now at.offset 12) ≡ true) × (place_of (field bytes.now at.offset 12) ≡ place)) }
+        (λ place. (is_place (field bytes.now at.offset 12) ≡ true)
+        × (place_of (field bytes.now at.offset 12) ≡ place)) }
     ensures near { IfSome result (λ place. place < 2 ^ 44) }
 {
     match pointer_at(bytes, at) {

@@ -33,32 +33,37 @@ pub trait FileCalls {
         requires built { IsBuiltMode mode }
         requires limit { (1 ≤ limit) × (limit ≤ 2 ^ 32) }
         ensures ready { is_ready self.new }
-        ensures makes { PlainMakes (files self.old) (devices self.old) (Opened number (opening_of mode) limit result) (devices self.new) (files self.new) };
+        ensures makes { PlainMakes (files self.old) (devices self.old)
+            (Opened number (opening_of mode) limit result) (devices self.new) (files self.new) };
 
     /// Closes a file, a broken one too. It takes no memory.
     fn close(&mut self, number: u32) -> Result<(), AdfError>
         requires ready { is_ready self.old }
         ensures ready { is_ready self.new }
-        ensures makes { PlainMakes (files self.old) (devices self.old) (Closed number result) (devices self.new) (files self.new) };
+        ensures makes { PlainMakes (files self.old) (devices self.old) (Closed number result)
+            (devices self.new) (files self.new) };
 
     /// Drops the device of a closed file. Its number is never used again, and its last counts are still
     /// meant. It takes no memory.
     fn discard(&mut self, number: u32) -> Result<(), AdfError>
         requires ready { is_ready self.old }
         ensures ready { is_ready self.new }
-        ensures makes { PlainMakes (files self.old) (devices self.old) (Discarded number result) (devices self.new) (files self.new) };
+        ensures makes { PlainMakes (files self.old) (devices self.old) (Discarded number result)
+            (devices self.new) (files self.new) };
 
     /// Answers a query. It changes no tree and writes nothing.
     fn ask(&mut self, query: &Query) -> Result<Reply, AdfError>
         requires ready { is_ready self.old }
         requires built { IsBuiltQuery query.now }
         ensures ready { is_ready self.new }
-        ensures makes { PlainMakes (files self.old) (devices self.old) (Asked query.now result) (devices self.new) (files self.new) };
+        ensures makes { PlainMakes (files self.old) (devices self.old) (Asked query.now result)
+            (devices self.new) (files self.new) };
 
     /// Does all edits of a group, or none.
     fn edit(&mut self, edits: &[Edit]) -> Result<Serials, EditError>
         requires ready { is_ready self.old }
         requires built { IsBuiltGroup edits.now }
         ensures ready { is_ready self.new }
-        ensures makes { PlainMakes (files self.old) (devices self.old) (Changed edits.now result) (devices self.new) (files self.new) };
+        ensures makes { PlainMakes (files self.old) (devices self.old) (Changed edits.now result)
+            (devices self.new) (files self.new) };
 }

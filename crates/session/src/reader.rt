@@ -81,11 +81,15 @@ impl LineReader {
 
     /// Reads up to the end of the next line.
     pub fn next<I: Source>(&mut self, input: &mut I) -> Result<Found, Stopped>
-        ensures found { IfOk result (λ what. HasFound what self.new.line self.old.input self.new.input (I.left input.old) (I.left input.new)) }
-        ensures stopped { IfErr result (λ why. HasStopped why self.old.input self.new.input (I.left input.old) (I.left input.new)) }
+        ensures found { IfOk result (λ what.
+            HasFound what self.new.line self.old.input self.new.input (I.left input.old)
+            (I.left input.new)) }
+        ensures stopped { IfErr result (λ why.
+            HasStopped why self.old.input self.new.input (I.left input.old) (I.left input.new)) }
         ensures line { length self.new.line ≤ 2 ^ 20 }
         ensures limit { self.new.input.taken ≤ 2 ^ 40 }
-        ensures cause { result ≡ Err Stopped.Source → Rose (I.faults input.old) (I.faults input.new) }
+        ensures cause { result ≡ Err Stopped.Source
+            → Rose (I.faults input.old) (I.faults input.new) }
         ensures later { I.faults input.old ≤ I.faults input.new }
     {
         let LineReader { pieces, line } = self;
@@ -129,11 +133,14 @@ impl Pieces {
 
     // Reads up to the end of the next line.
     fn next_line<I: Source>(&mut self, line: &mut Vec<u8>, input: &mut I) -> Result<Found, Stopped>
-        ensures found { IfOk result (λ what. HasFound what line.new.items self.old self.new (I.left input.old) (I.left input.new)) }
-        ensures stopped { IfErr result (λ why. HasStopped why self.old self.new (I.left input.old) (I.left input.new)) }
+        ensures found { IfOk result (λ what. HasFound what line.new.items self.old self.new
+            (I.left input.old) (I.left input.new)) }
+        ensures stopped { IfErr result (λ why.
+            HasStopped why self.old self.new (I.left input.old) (I.left input.new)) }
         ensures line { length line.new.items ≤ 2 ^ 20 }
         ensures limit { self.new.taken ≤ 2 ^ 40 }
-        ensures cause { result ≡ Err Stopped.Source → Rose (I.faults input.old) (I.faults input.new) }
+        ensures cause { result ≡ Err Stopped.Source
+            → Rose (I.faults input.old) (I.faults input.new) }
         ensures later { I.faults input.old ≤ I.faults input.new }
     {
         line.clear();
@@ -154,7 +161,8 @@ impl Pieces {
     // whether it is too long.
     fn move_part(&mut self, line: &mut Vec<u8>, is_long: bool) -> Result<(bool, bool), Stopped>
         requires { length line.old.items ≤ 2 ^ 20 }
-        ensures moved { IfOk result (λ said. MovesPart self.old self.new line.old.items line.new.items is_long said.0 said.1) }
+        ensures moved { IfOk result (λ said.
+            MovesPart self.old self.new line.old.items line.new.items is_long said.0 said.1) }
         ensures same { OnErr result (self.new ≡ self.old) }
         ensures memory { IfErr result (λ why. why ≡ Stopped.Memory) }
         ensures line { length line.new.items ≤ 2 ^ 20 }
@@ -170,11 +178,16 @@ impl Pieces {
     // Takes a piece of the input, and says how many bytes it has: none is the end.
     fn fill<I: Source>(&mut self, input: &mut I) -> Result<usize, Stopped>
         requires { self.old.pending ≡ [] }
-        ensures bytes { OnOk result (Consumes (I.left input.old) (I.left input.new) self.new.pending) }
-        ensures count { IfOk result (λ n. (length self.new.pending ≡ n) × (self.new.taken ≡ self.old.taken + n)) }
-        ensures end { IfOk result (λ n. n ≡ 0 → IsAtEnd (I.left input.new) × (self.new.taken < 2 ^ 40)) }
-        ensures kept { OnErr result (Keeps (I.left input.old) (I.left input.new) × (self.new ≡ self.old)) }
-        ensures source { result ≡ Err Stopped.Source → Rose (I.faults input.old) (I.faults input.new) × (self.new.taken < 2 ^ 40) }
+        ensures bytes { OnOk result (Consumes (I.left input.old)
+            (I.left input.new) self.new.pending) }
+        ensures count { IfOk result (λ n. (length self.new.pending ≡ n)
+            × (self.new.taken ≡ self.old.taken + n)) }
+        ensures end { IfOk result (λ n. n ≡ 0 → IsAtEnd (I.left input.new)
+            × (self.new.taken < 2 ^ 40)) }
+        ensures kept { OnErr result (Keeps (I.left input.old) (I.left input.new)
+            × (self.new ≡ self.old)) }
+        ensures source { result ≡ Err Stopped.Source
+            → Rose (I.faults input.old) (I.faults input.new) × (self.new.taken < 2 ^ 40) }
         ensures full { result ≡ Err Stopped.Limit → self.new.taken ≡ 2 ^ 40 }
         ensures memory { result ≡ Err Stopped.Memory → ⊥ }
         ensures later { I.faults input.old ≤ I.faults input.new }
@@ -222,7 +235,8 @@ struct Part {
 
 // The bytes before the first line feed, or all of them.
 fn part_in(bytes: &[u8]) -> Part
-    ensures cut { bytes.now ≡ take result.length bytes.now ++ behind_part result.has_ended (drop result.used bytes.now) }
+    ensures cut { bytes.now ≡ take result.length bytes.now
+        ++ behind_part result.has_ended (drop result.used bytes.now) }
     ensures plain { NoFeed (take result.length bytes.now) }
     ensures bound { (result.length ≤ result.used) × (result.used ≤ length bytes.now) }
     ensures all { result.has_ended ≡ false → result.used ≡ length bytes.now }
@@ -245,7 +259,9 @@ fn part_in(bytes: &[u8]) -> Part
 fn feed_in(bytes: &[u8]) -> Option<usize>
     ensures { MatchOption result
         (NoFeed bytes.now)
-        (λ at. (at < length bytes.now) × (bytes.now ≡ take at bytes.now ++ (10 ∷ drop (at + 1) bytes.now)) × NoFeed (take at bytes.now)) }
+        (λ at. (at < length bytes.now)
+        × (bytes.now ≡ take at bytes.now ++ (10 ∷ drop (at + 1) bytes.now))
+        × NoFeed (take at bytes.now)) }
 {
     bytes.iter().position(|b| *b == b'\n')
 }
@@ -253,7 +269,8 @@ fn feed_in(bytes: &[u8]) -> Option<usize>
 // Appends a part to the line, unless it is too long then, or was before. It says whether it is.
 fn extend_line(line: &mut Vec<u8>, part: &[u8], is_long: bool) -> Result<bool, Stopped>
     requires { length line.old.items ≤ 2 ^ 20 }
-    ensures held { IfOk result (λ long. (used : List ℕ) → IsHeld is_long line.old.items used → IsHeld long line.new.items (used ++ part.now)) }
+    ensures held { IfOk result (λ long. (used : List ℕ) → IsHeld is_long line.old.items used
+        → IsHeld long line.new.items (used ++ part.now)) }
     ensures bound { length line.new.items ≤ 2 ^ 20 }
     ensures memory { IfErr result (λ why. why ≡ Stopped.Memory) }
 {

@@ -46,9 +46,20 @@ pub fn run_session<C: FileCalls, I: Source, O: Sink>(
     requires { C.is_ready calls.old }
     ensures ready { C.is_ready calls.new }
     ensures run { HasRun result
-        (record { files = C.files calls.old; devices = C.devices calls.old; text = I.left input.old; taken = O.taken output.old })
-        (record { files = C.files calls.new; devices = C.devices calls.new; text = I.left input.new; taken = O.taken output.new }) }
-    ensures bound { (bytes : List ℕ) × Consumes (I.left input.old) (I.left input.new) bytes × IsBounded result (length bytes) }
+        (record {
+          files = C.files calls.old;
+          devices = C.devices calls.old;
+          text = I.left input.old;
+          taken = O.taken output.old;
+        })
+        (record {
+          files = C.files calls.new;
+          devices = C.devices calls.new;
+          text = I.left input.new;
+          taken = O.taken output.new;
+        }) }
+    ensures bound { (bytes : List ℕ) × Consumes (I.left input.old) (I.left input.new) bytes
+        × IsBounded result (length bytes) }
     ensures end { result ≡ Ended.Done → IsAtEnd (I.left input.new) }
     ensures source { result ≡ Ended.SourceFault → Rose (I.faults input.old) (I.faults input.new) }
     ensures sink { result ≡ Ended.SinkFault → Rose (O.faults output.old) (O.faults output.new) }
@@ -74,16 +85,39 @@ fn go_on<C: FileCalls, I: Source, O: Sink>(
     requires { C.is_ready calls.old }
     ensures ready { C.is_ready calls.new }
     ensures one { OnOk result (HasGoneOn
-        (record { files = C.files calls.old; devices = C.devices calls.old; text = prepend_known reader.old.input.pending (I.left input.old); taken = O.taken output.old })
-        (record { files = C.files calls.new; devices = C.devices calls.new; text = prepend_known reader.new.input.pending (I.left input.new); taken = O.taken output.new })) }
+        (record {
+          files = C.files calls.old;
+          devices = C.devices calls.old;
+          text = prepend_known reader.old.input.pending (I.left input.old);
+          taken = O.taken output.old;
+        })
+        (record {
+          files = C.files calls.new;
+          devices = C.devices calls.new;
+          text = prepend_known reader.new.input.pending (I.left input.new);
+          taken = O.taken output.new;
+        })) }
     ensures run { IfErr result (λ how. HasRun how
-        (record { files = C.files calls.old; devices = C.devices calls.old; text = prepend_known reader.old.input.pending (I.left input.old); taken = O.taken output.old })
-        (record { files = C.files calls.new; devices = C.devices calls.new; text = I.left input.new; taken = O.taken output.new })) }
-    ensures uses { (used : List ℕ) × Uses reader.old.input reader.new.input (I.left input.old) (I.left input.new) used × (IsOk result → 0 < length used) }
+        (record {
+          files = C.files calls.old;
+          devices = C.devices calls.old;
+          text = prepend_known reader.old.input.pending (I.left input.old);
+          taken = O.taken output.old;
+        })
+        (record {
+          files = C.files calls.new;
+          devices = C.devices calls.new;
+          text = I.left input.new;
+          taken = O.taken output.new;
+        })) }
+    ensures uses { (used : List ℕ)
+        × Uses reader.old.input reader.new.input (I.left input.old) (I.left input.new) used
+        × (IsOk result → 0 < length used) }
     ensures bound { IfErr result (λ how. IsBounded how reader.new.input.taken) }
     ensures limit { reader.new.input.taken ≤ 2 ^ 40 }
     ensures end { result ≡ Err Ended.Done → IsAtEnd (I.left input.new) }
-    ensures source { result ≡ Err Ended.SourceFault → Rose (I.faults input.old) (I.faults input.new) }
+    ensures source { result ≡ Err Ended.SourceFault
+        → Rose (I.faults input.old) (I.faults input.new) }
     ensures sink { result ≡ Err Ended.SinkFault → Rose (O.faults output.old) (O.faults output.new) }
     ensures source_later { I.faults input.old ≤ I.faults input.new }
     ensures sink_later { O.faults output.old ≤ O.faults output.new }
@@ -112,8 +146,11 @@ fn ended_by(why: Stopped) -> Ended
 // Prints the reply line of an answer, where there is one.
 fn reply<O: Sink>(alloc: Global, output: &mut O, answer: Option<Answer>) -> Result<(), Ended>
     requires { IfSome answer HasSpelling }
-    ensures whole { OnOk result (Appends (O.taken output.old) (O.taken output.new) (printed_reply (option_map reply_line answer))) }
-    ensures part { IfErr result (λ how. IsCut how × AppendsPart (O.taken output.old) (O.taken output.new) (printed_reply (option_map reply_line answer))) }
+    ensures whole { OnOk result (Appends (O.taken output.old) (O.taken output.new)
+        (printed_reply (option_map reply_line answer))) }
+    ensures part { IfErr result (λ how. IsCut how
+        × AppendsPart (O.taken output.old) (O.taken output.new)
+        (printed_reply (option_map reply_line answer))) }
     ensures sink { result ≡ Err Ended.SinkFault → Rose (O.faults output.old) (O.faults output.new) }
     ensures later { O.faults output.old ≤ O.faults output.new }
 {
@@ -141,7 +178,8 @@ fn spell_line(alloc: Global, answer: &Answer) -> Result<Vec<u8>, Ended>
 
 fn print_line<O: Sink>(output: &mut O, line: &[u8]) -> Result<(), Ended>
     ensures whole { OnOk result (Appends (O.taken output.old) (O.taken output.new) line.now) }
-    ensures part { IfErr result (λ how. (how ≡ Ended.SinkFault) × AppendsPart (O.taken output.old) (O.taken output.new) line.now) }
+    ensures part { IfErr result (λ how. (how ≡ Ended.SinkFault)
+        × AppendsPart (O.taken output.old) (O.taken output.new) line.now) }
     ensures sink { IfErr result (λ how. Rose (O.faults output.old) (O.faults output.new)) }
     ensures later { O.faults output.old ≤ O.faults output.new }
 {

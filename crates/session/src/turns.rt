@@ -18,7 +18,9 @@ pub(crate) fn take_turn<C: FileCalls>(alloc: Global, calls: &mut C, line: &[u8])
     requires ready { C.is_ready calls.old }
     requires short { length line.now ≤ 2 ^ 20 }
     ensures ready { C.is_ready calls.new }
-    ensures turn { (made : steps.Call) × Says line.now made (option_map reply_line result) × PlainMakes (C.files calls.old) (C.devices calls.old) made (C.devices calls.new) (C.files calls.new) }
+    ensures turn { (made : steps.Call) × Says line.now made (option_map reply_line result)
+        × PlainMakes (C.files calls.old) (C.devices calls.old) made (C.devices calls.new)
+        (C.files calls.new) }
     ensures spelling { IfSome result HasSpelling }
 {
     if skips(line) {
@@ -45,7 +47,9 @@ fn answer_to<C: FileCalls>(calls: &mut C, call: &Call) -> Answer
     requires ready { C.is_ready calls.old }
     requires built { IsBuilt call.now }
     ensures ready { C.is_ready calls.new }
-    ensures step { (made : steps.Call) × (call_made call.now result ≡ Some made) × PlainMakes (C.files calls.old) (C.devices calls.old) made (C.devices calls.new) (C.files calls.new) }
+    ensures step { (made : steps.Call) × (call_made call.now result ≡ Some made)
+        × PlainMakes (C.files calls.old) (C.devices calls.old) made (C.devices calls.new)
+        (C.files calls.new) }
 {
     match call {
         Call::Open {

@@ -55,7 +55,7 @@ broken_first : (edit : Edit) (edits : List Edit) (result : Result (List NodeId) 
     → (result ≡ Err (record { at = 0; error = AdfError.Broken })) ⊎ (result ≡ Err (record { at = 0; error = Memory }))
 broken_first edit edits (Ok created) h = absurd h
 broken_first edit edits (Err refusal) h = elim (memory_or refusal.error h.1) [
-  inl e ↦ inl (ap (λ a. Err (record { at = a; error = refusal.error })) h.0 ∙ ap (λ x. Err (record { at = 0; error = x })) e)
+  | inl e ↦ inl (ap (λ a. Err (record { at = a; error = refusal.error })) h.0 ∙ ap (λ x. Err (record { at = 0; error = x })) e)
   | inr e ↦ inr (ap (λ a. Err (record { at = a; error = refusal.error })) h.0 ∙ ap (λ x. Err (record { at = 0; error = x })) e)
 ]
 
