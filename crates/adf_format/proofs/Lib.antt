@@ -1,9 +1,7 @@
+pub mod Cases
 pub mod Paths
 pub mod Images
-pub mod FreshTest
 pub mod FindLaws
-pub mod FaultTest
-pub mod HeapTest
 pub mod CheckLaws
 pub mod HexLaws
 pub mod TileLaws
@@ -12,7 +10,6 @@ pub mod HeapSteps
 pub mod ReachedLaws
 pub mod GiveOrder
 pub mod WalkLaws
-pub mod RecordTest
 pub mod FreshLaidOut
 pub mod SameLayout
 pub mod LayoutLaws
@@ -22,9 +19,6 @@ pub mod RowLaws
 pub mod CountLaws
 pub mod GapLaws
 pub mod GiveLaws
-pub mod PartTest
-pub mod PackedTest
-pub mod RowTest
 pub mod ClosureLaws
 pub mod TreeLaws
 pub mod PathLaws
