@@ -3,7 +3,7 @@ pub mod Keeping
 pub mod Creation
 pub mod Following
 pub mod Walks
-pub mod Calls
+pub mod Answering
 pub mod Writes
 pub mod Cases
 pub mod Basics

@@ -17,7 +17,7 @@ use Rattle.adf_model.specs.Steps.{Asked, Step, OthersOnlyRead, OthersStayPlaced}
 use Rattle.adf_model.specs.Causes.{EntersFiles, AskedAnyway}
 use Rattle.plain_library.proofs.Entries.{entered_files, lacks_memory, refused_files}
 use Rattle.adf_model.proofs.Basics.{not_true, not_there, same_Some}
-use Rattle.adf_model.proofs.Calls.LayoutLemmas.{live_slot}
+use Rattle.adf_model.proofs.Answering.LayoutLemmas.{live_slot}
 use Rattle.adf_model.proofs.Following.FollowLaws.{follow-step}
 use Rattle.plain_library.proofs.FirstOf.{passed_by, refused_by}
 use Rattle.plain_library.specs.Calls.{IsAskedAt, entry_tests, children_reply}

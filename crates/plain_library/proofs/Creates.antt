@@ -16,8 +16,8 @@ use Rattle.adf_model.specs.Causes.{EntersFiles, RefusalLeaves, IsIndex, ChangedA
 use Rattle.adf_model.specs.Runs.{EditsTold, IsToldFor}
 use Rattle.session.specs.Calls.{PlainStops, PlainStep}
 use Rattle.adf_model.proofs.Following.StepTests.{step_tests}
-use Rattle.adf_model.proofs.Calls.StandingLaws.{standings_with, names_with}
-use Rattle.adf_model.proofs.Calls.GroupStands.{told_group, told_names}
+use Rattle.adf_model.proofs.Answering.StandingLaws.{standings_with, names_with}
+use Rattle.adf_model.proofs.Answering.GroupStands.{told_group, told_names}
 use Rattle.plain_library.proofs.Entries.{passed_files, refused_files, lacks_memory, tree_refused}
 use Rattle.adf_model.proofs.Basics.{not_true, not_there, same_Some}
 use Rattle.adf_model.proofs.Following.OneFileLaws.{in_its_file}

@@ -15,7 +15,7 @@ use Rattle.adf_model.specs.Slots as model
 use Rattle.adf_model.specs.Steps.{IsLaidOut, IsLaidOutAt}
 use Rattle.adf_model.specs.Torn.{Torn, TornAt}
 use Rattle.adf_model.specs.Untouched.{KeepsTail}
-use Rattle.adf_model.proofs.Calls.LayoutLemmas.{end_of_open}
+use Rattle.adf_model.proofs.Answering.LayoutLemmas.{end_of_open}
 use Rattle.adf_model.proofs.Trees.NumberedLaidOut.{numbered_laid_out}
 use Rattle.plain_library.proofs.FirstOf.{passed_by, refused_by}
 use Rattle.cg_io.specs.Device.{DeviceState, padded, overwritten, with_block}

@@ -10,8 +10,8 @@ use Rattle.call_script.specs.declared.calls.Call as script
 use Rattle.call_script.specs.declared.calls.Call.TheVariants as asks
 use Rattle.call_script.specs.declared.calls.OpenMode.TheVariants.{New}
 use Rattle.adf_model.specs.FaultReplies.{fault_replies, total_faults}
-use Rattle.adf_model.proofs.Calls.FaultBound.{Below, same_counts, stayed, any_counts, any_bound, below_before}
-use Rattle.adf_model.proofs.Calls.RunLaws.{told_for}
+use Rattle.adf_model.proofs.Answering.FaultBound.{Below, same_counts, stayed, any_counts, any_bound, below_before}
+use Rattle.adf_model.proofs.Answering.RunLaws.{told_for}
 use Rattle.session.specs.Turns.{Turn, Ran, Stepped, Says, call_made, calls_of}
 use Rattle.session.specs.Turns.Says.{too_long, skips, makes, misreads, lacks_memory}
 

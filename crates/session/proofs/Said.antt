@@ -20,7 +20,7 @@ use Rattle.std.specs.Prelude.{Option, IfSome}
 use Rattle.adf_model.specs.declared.error.EditError.{EditError}
 use Rattle.adf_model.specs.Causes.{Anyway}
 use Rattle.adf_model.specs.NamedRules.{NamesRule, NamesRules}
-use Rattle.adf_model.proofs.Calls.RuleNames.{rules_named}
+use Rattle.adf_model.proofs.Answering.RuleNames.{rules_named}
 use Rattle.session.specs.Calls.{IsBuiltQuery, IsBuiltEdit, IsBuiltGroup, PlainStep, PlainMakes}
 use Rattle.session.specs.Turns.{call_made, IsBuilt, is_skipped, Says}
 use Rattle.session.specs.Turns.Says.{too_long, skips, makes, misreads, lacks_memory}

@@ -10,7 +10,7 @@ use Rattle.adf_model.specs.declared.error.AdfError.TheVariants.{ReadFault}
 use Rattle.adf_model.specs.Slots.{Files, Devices, IsTold, slot_at, is_gone, is_open}
 use Rattle.adf_model.specs.Counts.{Rose}
 use Rattle.adf_model.specs.Steps.{SomeOpenFault}
-use Rattle.adf_model.proofs.Calls.Asking.{stays-trans}
+use Rattle.adf_model.proofs.Answering.Asking.{stays-trans}
 use Rattle.sids_views.specs.Asks.{HasAskCause}
 use Rattle.adf_model.specs.Causes.{OnlyAsks}
 

@@ -4,7 +4,7 @@ use Rattle.std.specs.Prelude.{Option, Some, None}
 use Rattle.std.specs.Io.KnownBytes.{Consumes, IsAtEnd}
 use Rattle.adf_model.specs.Slots.{Files, Device, Devices, device_at, entry_files, names_there}
 use Rattle.adf_model.specs.Steps.{NoneFell, NoCountFell}
-use Rattle.adf_model.proofs.Calls.LayoutLemmas.{laid_out_at_entry}
+use Rattle.adf_model.proofs.Answering.LayoutLemmas.{laid_out_at_entry}
 use Rattle.cg_io.specs.Cause.{Rose}
 use Rattle.plain_library.specs.Library.{shelf_files, shelf_devices, standing_name, unplaced}
 use Rattle.plain_library.specs.Shelf.{SlotState}

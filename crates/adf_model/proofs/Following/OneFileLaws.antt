@@ -18,7 +18,7 @@ use Rattle.adf_model.specs.Follow.{follow, follow_text, reach, text_in, text_of_
 use Rattle.adf_model.specs.Calls.{Group, is_live_in, tests_at_entry, resolved, resolve, group_of, file_of, file_of_group, group_after, edit_reached, group_step, group_from, edit_group}
 use Rattle.adf_model.specs.OneFile.{StandsIn, outcome_of_group, outcome_of_work}
 use Rattle.adf_model.proofs.Basics.{not_there, not_false, or_none, same_Some, same_Ok, done}
-use Rattle.adf_model.proofs.Calls.LayoutLemmas.{live_slot}
+use Rattle.adf_model.proofs.Answering.LayoutLemmas.{live_slot}
 use Rattle.adf_model.proofs.Following.StepTests.{followed_same, step_tests}
 use Rattle.adf_model.proofs.Following.FollowLaws.{follow-step}
 use Rattle.adf_model.proofs.Keeping.GroupKeeps.{resolve_reaches, reached_in_tree, followed_live}

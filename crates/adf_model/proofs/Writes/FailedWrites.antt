@@ -18,7 +18,7 @@ use Rattle.adf_model.specs.Torn.{TornAt, Torn, TornGroup}
 use Rattle.adf_model.specs.Untouched.{StaysBut, StaysBeside, group_touched}
 use Rattle.adf_model.specs.Steps.{OfGroup, LeavesBesideBlock, AllLaidOut, IsLaidOut, IsEdit}
 use Rattle.adf_model.proofs.Basics.{same_Some}
-use Rattle.adf_model.proofs.Calls.LayoutLemmas.{live_slot}
+use Rattle.adf_model.proofs.Answering.LayoutLemmas.{live_slot}
 use Rattle.adf_model.proofs.Creation.PartsApart.{cover_all, range_in}
 use Rattle.adf_model.proofs.Writes.TornTail.{nat_cases, sides, byte_written, byte_unwritten, there_too}
 

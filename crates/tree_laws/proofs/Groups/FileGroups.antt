@@ -23,7 +23,7 @@ use Rattle.adf_model.specs.Steps.{IsLaidOut}
 use Rattle.adf_model.proofs.Basics.{not_true, not_false, or_none, equal, not_there, same_Some, same_Ok, passed, found, done}
 use Rattle.adf_model.proofs.Keeping.GroupKeeps.{followed_live, resolve_reaches, reached_in_tree, group_step_keeps, one_step, followed_in}
 use Rattle.adf_model.proofs.Following.OneFileLaws.{in_its_file, opened_now}
-use Rattle.adf_model.proofs.Calls.LayoutLemmas.{end_of_open}
+use Rattle.adf_model.proofs.Answering.LayoutLemmas.{end_of_open}
 use Rattle.adf_model.specs.FileGroup.{done_by}
 use Rattle.tree_laws.specs.Groups.{tree_left, group_need, AreDone, place_plans}
 use Rattle.tree_laws.specs.Needs.{Grows}

@@ -27,7 +27,7 @@ use Rattle.tree_laws.specs.Plans.{end_of_plan, plan_edit}
 use Rattle.adf_model.specs.FileGroup.{done_then, done_by}
 use Rattle.tree_laws.specs.Groups.{tree_left, placement_left, group_need, AreDone, place_plans, GroupGrows, GroupIsDone, DoneGrow, FirstsGrow, TreeGrows, PlacementGrows, PlansGrow, PlacementIsLeft, TouchedGrow, ShapedGrow, CostGrows, NeedGrows, AreDoneGrow}
 use Rattle.adf_model.proofs.Keeping.EditsKeep.{one_step, at_followed}
-use Rattle.adf_model.proofs.Calls.PlacingLemmas.{same_further, further}
+use Rattle.adf_model.proofs.Answering.PlacingLemmas.{same_further, further}
 
 -- ---- an edit of one file that is done is one of nodes that are reached
 

@@ -1,5 +1,5 @@
-use Rattle.adf_model.proofs.Calls.AskLaws.{asks_keep, asks_none, asks_more}
-use Rattle.adf_model.proofs.Calls.AsksThenEdits.{edits_behind_asks}
+use Rattle.adf_model.proofs.Answering.AskLaws.{asks_keep, asks_none, asks_more}
+use Rattle.adf_model.proofs.Answering.AsksThenEdits.{edits_behind_asks}
 use Rattle.adf_model.proofs.ask_laws.asks_leave_all.Goals as goal
 
 pub returns-clause-layouts : goal.returns-clause-layouts

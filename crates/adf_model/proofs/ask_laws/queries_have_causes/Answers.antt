@@ -1,4 +1,4 @@
-use Rattle.adf_model.proofs.Calls.AskLaws.{query_is_read, may_is_query, query_no_room, query_no_other_file, query_no_write}
+use Rattle.adf_model.proofs.Answering.AskLaws.{query_is_read, may_is_query, query_no_room, query_no_other_file, query_no_write}
 use Rattle.adf_model.proofs.ask_laws.queries_have_causes.Goals as goal
 
 pub returns-clause-read : goal.returns-clause-read

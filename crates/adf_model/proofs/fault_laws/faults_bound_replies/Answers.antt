@@ -1,4 +1,4 @@
-use Rattle.adf_model.proofs.Calls.FaultBound.{run_counts, step_bound, run_bound}
+use Rattle.adf_model.proofs.Answering.FaultBound.{run_counts, step_bound, run_bound}
 use Rattle.adf_model.proofs.fault_laws.faults_bound_replies.Goals as goal
 
 pub returns-clause-counts : goal.returns-clause-counts

@@ -1,4 +1,4 @@
-use Rattle.adf_model.proofs.Calls.FileGroupLaws.{empty_group, broken_group}
+use Rattle.adf_model.proofs.Answering.FileGroupLaws.{empty_group, broken_group}
 use Rattle.adf_model.proofs.file_group_laws.few_edits_and_broken_files.Goals as goal
 
 pub returns-clause-empty : goal.returns-clause-empty

@@ -1,4 +1,4 @@
-use Rattle.adf_model.proofs.Calls.FileGroupLaws.{refused_stays, written_breaks, read_fails, silent_read_fails, own_errors}
+use Rattle.adf_model.proofs.Answering.FileGroupLaws.{refused_stays, written_breaks, read_fails, silent_read_fails, own_errors}
 use Rattle.adf_model.proofs.file_group_laws.file_groups_have_causes.Goals as goal
 
 pub returns-clause-stays : goal.returns-clause-stays

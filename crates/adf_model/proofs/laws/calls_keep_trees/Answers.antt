@@ -1,6 +1,6 @@
 use Rattle.adf_model.specs.Slots.{slot_at, device_at}
-use Rattle.adf_model.proofs.Calls.LayoutLemmas.{laid_out_at_entry}
-use Rattle.adf_model.proofs.Calls.StepLaws.{sound_at_entry, open_are_trees, opened_tree, step_keeps}
+use Rattle.adf_model.proofs.Answering.LayoutLemmas.{laid_out_at_entry}
+use Rattle.adf_model.proofs.Answering.StepLaws.{sound_at_entry, open_are_trees, opened_tree, step_keeps}
 use Rattle.adf_model.proofs.laws.calls_keep_trees.Goals as goal
 
 pub returns-clause-entry : goal.returns-clause-entry

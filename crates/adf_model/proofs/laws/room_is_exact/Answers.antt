@@ -1,4 +1,4 @@
-use Rattle.adf_model.proofs.Calls.RoomLaws.{full_is_exact, not_done, not_written, not_refused_later}
+use Rattle.adf_model.proofs.Answering.RoomLaws.{full_is_exact, not_done, not_written, not_refused_later}
 use Rattle.adf_model.proofs.laws.room_is_exact.Goals as goal
 
 pub returns-clause-exact : goal.returns-clause-exact

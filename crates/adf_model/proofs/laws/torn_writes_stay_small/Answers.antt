@@ -1,4 +1,4 @@
-use Rattle.adf_model.proofs.Calls.FaultCauses.{fresh_stays_small}
+use Rattle.adf_model.proofs.Answering.FaultCauses.{fresh_stays_small}
 use Rattle.adf_model.proofs.laws.torn_writes_stay_small.Goals as goal
 
 pub returns-clause-group : goal.returns-clause-group

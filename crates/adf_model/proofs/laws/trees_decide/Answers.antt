@@ -1,4 +1,4 @@
-use Rattle.adf_model.proofs.Calls.RoomLaws.{answer_completes, edit_completes}
+use Rattle.adf_model.proofs.Answering.RoomLaws.{answer_completes, edit_completes}
 use Rattle.adf_model.proofs.laws.trees_decide.Goals as goal
 
 pub returns-clause-query : goal.returns-clause-query

@@ -1,4 +1,4 @@
-use Rattle.adf_model.proofs.Calls.CostLaws.{step_within, run_within, run_costs}
+use Rattle.adf_model.proofs.Answering.CostLaws.{step_within, run_within, run_costs}
 use Rattle.adf_model.proofs.laws.writes_are_bounded.Goals as goal
 
 pub returns-clause-call : goal.returns-clause-call

@@ -1,4 +1,4 @@
-use Rattle.adf_model.proofs.Calls.RunLaws.{fresh_held, fresh_placed, fresh_ends}
+use Rattle.adf_model.proofs.Answering.RunLaws.{fresh_held, fresh_placed, fresh_ends}
 use Rattle.adf_model.proofs.run_laws.fresh_files_are_known.Goals as goal
 
 pub returns-clause-held : goal.returns-clause-held

@@ -1,4 +1,4 @@
-use Rattle.adf_model.proofs.Calls.RunLaws.{run_told, run_laid_out, run_parts, run_ends}
+use Rattle.adf_model.proofs.Answering.RunLaws.{run_told, run_laid_out, run_parts, run_ends}
 use Rattle.adf_model.proofs.run_laws.states_are_laid_out.Goals as goal
 
 pub returns-clause-told : goal.returns-clause-told

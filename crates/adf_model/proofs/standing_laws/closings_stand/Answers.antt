@@ -1,7 +1,7 @@
 use Rattle.std.proofs.Common.{◌≡◌, not}
 use Rattle.adf_model.specs.declared.error.AdfError.TheVariants.{Memory, NoSuchFile, NotOpen, AlreadyOpen}
 use Rattle.adf_model.specs.Slots.{Standing, slot_at, is_gone, is_open}
-use Rattle.adf_model.proofs.Calls.StandingLaws.{closing_anyway, discarding_anyway, never_lacks}
+use Rattle.adf_model.proofs.Answering.StandingLaws.{closing_anyway, discarding_anyway, never_lacks}
 use Rattle.adf_model.proofs.standing_laws.closings_stand.Goals as goal
 
 no_file : NoSuchFile ≡ Memory → ⊥

@@ -1,4 +1,4 @@
-use Rattle.adf_model.proofs.Calls.EditCauses.{applied_refused, group_refused}
+use Rattle.adf_model.proofs.Answering.EditCauses.{applied_refused, group_refused}
 use Rattle.adf_model.proofs.standing_laws.edits_have_causes.Goals as goal
 
 pub returns-clause-alone : goal.returns-clause-alone

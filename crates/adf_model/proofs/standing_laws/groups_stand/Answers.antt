@@ -1,5 +1,5 @@
-use Rattle.adf_model.proofs.Calls.StandingLaws.{failed_stands, silent_group}
-use Rattle.adf_model.proofs.Calls.GroupStands.{told_group, told_names}
+use Rattle.adf_model.proofs.Answering.StandingLaws.{failed_stands, silent_group}
+use Rattle.adf_model.proofs.Answering.GroupStands.{told_group, told_names}
 use Rattle.adf_model.proofs.standing_laws.groups_stand.Goals as goal
 
 pub returns-clause-failed : goal.returns-clause-failed

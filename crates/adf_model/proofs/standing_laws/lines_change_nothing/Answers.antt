@@ -1,4 +1,4 @@
-use Rattle.adf_model.proofs.Calls.StandingLaws.{line_errors}
+use Rattle.adf_model.proofs.Answering.StandingLaws.{line_errors}
 use Rattle.adf_model.proofs.standing_laws.lines_change_nothing.Goals as goal
 
 pub returns-clause-errors : goal.returns-clause-errors

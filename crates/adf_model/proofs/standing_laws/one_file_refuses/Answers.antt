@@ -1,4 +1,4 @@
-use Rattle.adf_model.proofs.Calls.StandingLaws.{entry_refuses, passed_refuses}
+use Rattle.adf_model.proofs.Answering.StandingLaws.{entry_refuses, passed_refuses}
 use Rattle.adf_model.proofs.standing_laws.one_file_refuses.Goals as goal
 
 pub returns-clause-entry : goal.returns-clause-entry

@@ -1,6 +1,6 @@
 use Rattle.std.proofs.Common.{refl}
 use Rattle.adf_model.specs.declared.error.AdfError.TheVariants.{NoSuchNode, OtherFile, Full}
-use Rattle.adf_model.proofs.Calls.StandingLaws.{silent_opening, never_opened}
+use Rattle.adf_model.proofs.Answering.StandingLaws.{silent_opening, never_opened}
 use Rattle.adf_model.proofs.standing_laws.openings_have_causes.Goals as goal
 
 pub returns-clause-silent : goal.returns-clause-silent

@@ -1,4 +1,4 @@
-use Rattle.adf_model.proofs.Calls.StandingLaws.{refused_stand, others_stand, opened_stands, opening_anyway}
+use Rattle.adf_model.proofs.Answering.StandingLaws.{refused_stand, others_stand, opened_stands, opening_anyway}
 use Rattle.adf_model.proofs.standing_laws.openings_stand.Goals as goal
 
 pub returns-clause-refused : goal.returns-clause-refused

@@ -1,5 +1,5 @@
 use Rattle.std.proofs.Common.{refl}
-use Rattle.adf_model.proofs.Calls.StandingLaws.{shelf_count, shelf_found, shelf_finds}
+use Rattle.adf_model.proofs.Answering.StandingLaws.{shelf_count, shelf_found, shelf_finds}
 use Rattle.adf_model.proofs.standing_laws.shelves_by_name.Goals as goal
 
 pub returns-clause-none : goal.returns-clause-none

@@ -12,9 +12,9 @@ use Rattle.adf_model.specs.Slots.{Open, Slot, Files, Device, Devices, slot_at, d
 use Rattle.adf_model.specs.Slots.Slot.{Gone, Raw, Saved, Live}
 use Rattle.adf_model.specs.Steps.{AllLaidOut, IsLaidOut, Fresh, IsFirstOr, IsOpenRefusal, IsOpening, closed, open_tests, WriteStops, Call, Opened, Closed, Discarded, Asked, Changed, Skipped, Misread, Step}
 use Rattle.adf_model.specs.Runs.{IsToldFor, Run}
-use Rattle.adf_model.proofs.Calls.StandingLaws.{not_gone}
+use Rattle.adf_model.proofs.Answering.StandingLaws.{not_gone}
 use Rattle.adf_model.proofs.Basics.{not_true, not_there, same_Some}
-use Rattle.adf_model.proofs.Calls.LayoutLemmas.{live_slot, end_of_open}
+use Rattle.adf_model.proofs.Answering.LayoutLemmas.{live_slot, end_of_open}
 
 -- ---- all states
 

@@ -13,7 +13,7 @@ use Rattle.adf_model.specs.Slots.{Open, Slot, Files, Devices, slot_at, open_of, 
 use Rattle.adf_model.specs.Slots.Slot.{Gone, Raw, Saved, Live}
 use Rattle.adf_model.specs.Steps.{Opening, Fresh, Stored, HoldsTree, Opens, IsOpening, after_refusal, closed, close_tests, open_tests, IsMoved, IsEdit, IsGroupRefusal, Call, Opened, Closed, Discarded, Asked, Changed, Skipped, Misread, Step}
 use Rattle.adf_model.proofs.Basics.{not_true}
-use Rattle.adf_model.proofs.Calls.LayoutLemmas.{live_slot, entry_slot}
+use Rattle.adf_model.proofs.Answering.LayoutLemmas.{live_slot, entry_slot}
 use Rattle.adf_model.proofs.Trees.Renumbered.{numbered_is_tree, numbered_is_numbered}
 use Rattle.adf_model.proofs.Keeping.GroupKeeps.{edit_group_keeps, LeavesOthers, edit_group_others}
 

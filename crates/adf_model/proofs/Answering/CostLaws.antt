@@ -17,7 +17,7 @@ use Rattle.adf_model.specs.Runs.{Run}
 use Rattle.adf_model.specs.Costs.{is_write_fault, opening_cost, cost_from, cost_for, edits_cost, call_cost, RunCosts}
 use Rattle.adf_model.proofs.Basics.{not_true, not_there, same_Some, same_Ok, passed, found, done}
 use Rattle.adf_model.proofs.Keeping.GroupKeeps.{one_step}
-use Rattle.adf_model.proofs.Calls.RunLaws.{told_for}
+use Rattle.adf_model.proofs.Answering.RunLaws.{told_for}
 
 -- ---- the file of a group is open before it
 

@@ -14,9 +14,9 @@ use Rattle.adf_model.specs.Calls.{Group, tests_at_entry, resolve, group_of, file
 use Rattle.adf_model.specs.Steps.{IsEdit, IsGroupRefusal, MayEdit}
 use Rattle.adf_model.specs.Causes.{RefusalLeaves, GroupLeaves}
 use Rattle.adf_model.proofs.Basics.{same_Ok, passed, found, done}
-use Rattle.adf_model.proofs.Calls.LayoutLemmas.{live_slot}
+use Rattle.adf_model.proofs.Answering.LayoutLemmas.{live_slot}
 use Rattle.adf_model.proofs.Keeping.GroupKeeps.{one_step}
-use Rattle.adf_model.proofs.Calls.StandingLaws.{standings_with, same_standings, names_with}
+use Rattle.adf_model.proofs.Answering.StandingLaws.{standings_with, same_standings, names_with}
 
 step_stands : (group next : Group) (edit : Edit) → group_step group edit ≡ Ok next → standings next.files ≡ standings group.files
 step_stands group next edit e =

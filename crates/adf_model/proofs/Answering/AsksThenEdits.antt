@@ -16,8 +16,8 @@ use Rattle.adf_model.specs.Steps.{OnlyRead, OthersOnlyRead, OthersStayPlaced, Wr
 use Rattle.adf_model.specs.Counts.{Rose}
 use Rattle.adf_model.specs.Causes.{OnlyAsks, RefusalLeaves, GroupLeaves, ChangedAnyway}
 use Rattle.adf_model.specs.Runs.{KeepsLayouts, IsToldFor, Makes}
-use Rattle.adf_model.proofs.Calls.Asking.{told-stays}
-use Rattle.adf_model.proofs.Calls.AskLaws.{asks_keep}
+use Rattle.adf_model.proofs.Answering.Asking.{told-stays}
+use Rattle.adf_model.proofs.Answering.AskLaws.{asks_keep}
 
 -- a fact of the file of a group gives another
 of_group_map : (files : Files) (edits : List Edit) (Fact Other : ℕ → Open → Group → Type 0) → ((number : ℕ) (opened : Open) (group : Group) → Fact number opened group → Other number opened group) → OfGroup files edits Fact → OfGroup files edits Other

@@ -13,7 +13,7 @@ use Rattle.adf_model.specs.Steps.{SomeFault, HasReadFault, HasReadCause, HasQuer
 use Rattle.adf_model.specs.Causes.{OnlyAsks}
 use Rattle.adf_model.specs.Runs.{KeepsLayouts}
 use Rattle.adf_model.proofs.Basics.{not_true}
-use Rattle.adf_model.proofs.Calls.Asking.{stays-trans}
+use Rattle.adf_model.proofs.Answering.Asking.{stays-trans}
 
 not_None : (n : ℕ) → ◌≢◌ {A = Option ℕ} (Some n) None
 not_None n e = cc
