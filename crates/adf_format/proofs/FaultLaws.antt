@@ -1,5 +1,5 @@
 -- Every image has a first fault, and one alone, or none.
-use Rattle.std.proofs.Common.{add_assoc, ◌≡◌, ◌⊎◌, inl, inr, ℕ, zero, suc, refl, sym, ◌∙◌, ap, subst, arith, List, [], ◌∷◌, ◌++◌, length, map, ◌+◌, ◌-◌, ◌<◌, ◌≤◌, Bool, true, false}
+use Rattle.std.proofs.Common.{add_assoc, ◌≡◌, ◌⊎◌, inl, inr, ℕ, zero, suc, refl, sym, ◌∙◌, ap, subst, arith, List, [], ◌∷◌, ◌++◌, map, ◌+◌, ◌-◌, ◌<◌, ◌≤◌, Bool, true, false}
 use Rattle.std.proofs.lemmas.Bool.Decides.{nat_tests, leb_tells}
 use Rattle.std.specs.Prelude.{Option, Some, None, Ok, Err, Result, ◌&&◌, nat_le}
 use Rattle.std.specs.List.{AllByRecursion}
@@ -7,7 +7,7 @@ use Rattle.adf_format.specs.Fields.{field}
 use Rattle.adf_format.specs.Pointer.{place_of}
 use Rattle.adf_format.specs.Tiles.{total_length}
 use Rattle.adf_format.specs.Checks.{Row, Fault, first_broken, Walk, finished, stopped, passed}
-use Rattle.adf_format.specs.FirstFault.{Visit, FreeVisit, free_rows, next_free, free_extent, first_frees, chunk_length, FreeWalk, NodeWalk, is_wide, end_in, has_room, found_extents, FirstFault, in_head, at_node, in_list, in_tiling, HasNoFault, head_rows, is_misplaced, extents_found, IsLeastMisplaced}
+use Rattle.adf_format.specs.FirstFault.{Visit, FreeVisit, free_rows, next_free, free_extent, first_frees, chunk_length, FreeWalk, NodeWalk, is_wide, end_in, found_extents, FirstFault, in_head, at_node, in_list, in_tiling, HasNoFault, head_rows, is_misplaced, extents_found, IsLeastMisplaced}
 use Rattle.adf_format.proofs.WalkLaws.{all_kept, node_walk_ends, room_tells}
 use Rattle.adf_format.proofs.CheckLaws.{one_outcome}
 

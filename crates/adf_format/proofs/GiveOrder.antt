@@ -1,11 +1,11 @@
 -- Ranges that are given one after another make the same gaps in any order.
-use Rattle.std.proofs.Common.{◌≡◌, ◌⊎◌, inl, inr, ℕ, zero, suc, refl, sym, ◌∙◌, ap, subst, arith, List, [], ◌∷◌, ◌++◌, ◌+◌, ◌<◌, ◌≤◌, Bool, true, false}
+use Rattle.std.proofs.Common.{◌≡◌, ◌⊎◌, inl, inr, ℕ, suc, refl, sym, ◌∙◌, ap, subst, arith, List, [], ◌∷◌, ◌++◌, ◌+◌, ◌<◌, ◌≤◌, Bool, true, false}
 use Rattle.std.proofs.lemmas.Bool.Decides.{nat_tests, leb_tells}
 use Rattle.std.specs.Prelude.{nat_lt, ◌==◌, ◌&&◌, cond, IsTrue}
 use Rattle.std.specs.List.{AllByRecursion}
 use Rattle.adf_format.specs.declared.types.Extent.{Extent}
 use Rattle.adf_format.specs.declared.types.ExtentKind.{ExtentKind}
-use Rattle.adf_format.specs.Tiles.{cover, end_of, is_filler, MeetsNone, holds_byte}
+use Rattle.adf_format.specs.Tiles.{cover, end_of, MeetsNone}
 use Rattle.adf_format.specs.Placement.{Heap, extent}
 use Rattle.adf_format.specs.LaysOut.{StandsBefore, AreGapsInOrder, HasSameRanges, count_of}
 use Rattle.adf_format.specs.HeapRule.{new_gap, give_joined, heap_give, give_all}

@@ -1,11 +1,11 @@
 -- The fields of each record, in the order in which they stand. The table is that of the code
 -- (`fields`): whatever is said of the bytes of a record names a field of it.
-use Rattle.std.specs.Prelude.{◌≡◌, ℕ, ◌+◌, ◌-◌, ◌*◌, nat_le, ◌==◌, Bool, true, false, ◌&&◌, List, [], ◌∷◌, ◌++◌, length, map, filter}
+use Rattle.std.specs.Prelude.{◌≡◌, ℕ, ◌+◌, ◌*◌, nat_le, ◌==◌, Bool, true, false, ◌&&◌, List, [], ◌∷◌, ◌++◌, length, map}
 use Rattle.std.specs.List.{range_with_len}
 use Rattle.adf_format.specs.Fields.{field, number, holds}
 use Rattle.adf_format.specs.declared.fields.Field.{Field}
 use Rattle.adf_format.specs.declared.fields.FieldKind.{FieldKind}
-use Rattle.adf_format.specs.declared.fields.FieldKind.TheVariants.{Tag, Text, Number, Digits, Pointer, TypeWord, FormatLetter, Free}
+use Rattle.adf_format.specs.declared.fields.FieldKind.TheVariants.{Tag, Number, Digits, Pointer, TypeWord, FormatLetter}
 use Rattle.adf_format.specs.declared.fields.TheConstants.{HEADER_WHAT, HEADER_TAG_0, HEADER_CREATED, HEADER_TAG_1, HEADER_MODIFIED, HEADER_TAG_2, HEADER_FORMAT, HEADER_SIZE_LETTER, HEADER_TAG_3, HEADER_SIZES, HEADER_TAG_4, HEADER_ROOT, HEADER_END, HEADER_FREE_TABLE, HEADER_EXTRA, HEADER_TAG_5, HEADER_SIZE, TAG_LENGTH, WHAT_PRODUCT, WHAT_VERSION, WHAT_NUMBER, WHAT_CLOSING, FREE_TAG, SMALL_FIRST, SMALL_LAST, MEDIUM_FIRST, MEDIUM_LAST, LARGE_FIRST, LARGE_LAST, FREE_END_TAG, NODE_TAG, NODE_NAME, NODE_LABEL, NODE_CHILDREN, NODE_ENTRIES, NODE_TABLE, NODE_TYPE, NODE_RANK, NARROW_DIMENSION, WIDE_DIMENSION, NODE_CHUNKS, NODE_CHUNK, NODE_END_TAG, NODE_TAIL_LENGTH, FREE_CHUNK_TAG, HEAD_POINTER, HEAD_LENGTH, FREE_NEXT, ENTRY_NAME, ENTRY_CHILD, ENTRY_LENGTH, CHUNK_START, CHUNK_END, CHUNK_ENTRY_LENGTH}
 
 -- ---- what a field holds

@@ -1,5 +1,5 @@
 -- The trees that visits of an image make: the whole tree of a sound image, and the sound part of a damaged one.
-use Rattle.std.specs.Prelude.{◌≡◌, ℕ, Bool, true, false, ◌&&◌, suc, ◌+◌, ◌-◌, min, cond, ◌==◌, List, [], ◌∷◌, ◌++◌, length, map, take, option_map, Option, Some, None}
+use Rattle.std.specs.Prelude.{◌≡◌, ℕ, Bool, true, false, ◌&&◌, suc, ◌-◌, min, cond, ◌==◌, List, [], ◌∷◌, ◌++◌, length, map, take, option_map, Option, Some, None}
 use Rattle.std.specs.List.{filter_map, flat_map}
 use Rattle.std.specs.Str.{bytes_eq}
 use Rattle.adf_format.specs.Fields.{field, holds, trimmed}

@@ -1,5 +1,5 @@
 -- What the writer's records say, and the text of a part with a body between its head and its end tag.
-use Rattle.std.specs.Prelude.{◌≡◌, ℕ, ◌+◌, ◌*◌, ◌^◌, ◌<◌, ◌≤◌, Bool, List, [], ◌∷◌, ◌++◌, length, slice_get, Option, Some, None, IsTrue, codes, ⊤}
+use Rattle.std.specs.Prelude.{◌≡◌, ℕ, ◌+◌, ◌*◌, ◌^◌, ◌<◌, ◌≤◌, Bool, List, [], ◌∷◌, ◌++◌, length, slice_get, Option, Some, None, IsTrue, ⊤}
 use Rattle.std.specs.List.{flat_map}
 use Rattle.adf_format.specs.Hex.{hex_value, is_hex}
 use Rattle.adf_format.specs.Pointer.{Pointer, Blank, To}

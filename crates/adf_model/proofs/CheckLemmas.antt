@@ -1,9 +1,8 @@
 -- What the sizes of shapes stand on.
-use Rattle.std.proofs.Common.{◌≡◌, ℕ, zero, suc, ◌+◌, ◌-◌, ◌*◌, ◌<◌, ◌≤◌, min, false, ◌==◌, List, [], ◌∷◌, ◌++◌, length, get_or, take, refl, sym, ◌∙◌, ap, arith, sub-one}
+use Rattle.std.proofs.Common.{◌≡◌, ℕ, zero, suc, ◌+◌, ◌*◌, ◌<◌, ◌≤◌, min, List, [], ◌∷◌, ◌++◌, length, get_or, take, refl, sym, ◌∙◌, ap, arith}
 use Rattle.std.proofs.Math.Nat.{mul-suc, mul-zero, mul_assoc, min-eq_left}
 use Rattle.std.proofs.lemmas.List.{take_more}
-use Rattle.std.specs.Prelude.{Some, None, slice_get}
-use Rattle.adf_format.specs.Names.{ends_with_space, product}
+use Rattle.adf_format.specs.Names.{product}
 
 one_more : (m x y a bound : ℕ) → m ≡ min a bound → (a ≤ bound → x ≡ y) → min (x + m) bound ≡ min (y + a) bound
 one_more m x y a bound e same = grind (arith, same)

@@ -1,5 +1,5 @@
 -- A group of edits on one open file by itself, within which no link is followed: what may be answered, and what is left of the file and its device.
-use Rattle.std.specs.Prelude.{◌≡◌, ◌≢◌, ◌⊎◌, IsSome, ℕ, ◌+◌, ◌<◌, ◌≤◌, Bool, true, false, List, [], ◌∷◌, length, take, slice_get, Some, Result, Ok, Err}
+use Rattle.std.specs.Prelude.{◌≡◌, ◌≢◌, ◌⊎◌, IsSome, ℕ, ◌+◌, ◌≤◌, Bool, true, false, List, [], ◌∷◌, length, take, slice_get, Some, Result, Ok, Err}
 use Rattle.adf_model.specs.declared.error.AdfError.{AdfError}
 use Rattle.adf_model.specs.declared.error.AdfError.TheVariants.{ReadFault, WriteFault, NotOpen, NoSuchFile, LinkChain, OtherFile}
 use Rattle.adf_model.specs.declared.error.EditError.{EditError}

@@ -13,7 +13,7 @@ use Rattle.adf_format.specs.LaysOut.{IsGap, StandsBefore, AreGapsInOrder}
 use Rattle.adf_format.specs.HeapRule.{before_gaps, put_gap}
 use Rattle.adf_model.specs.Creation.{AllFillers}
 use Rattle.adf_format.proofs.HeapLaws.{in_range, cover-before_gaps}
-use Rattle.adf_format.proofs.GapLaws.{BeginFrom, before_gaps_in_order, begin_step, before_gaps_begin}
+use Rattle.adf_format.proofs.GapLaws.{BeginFrom, before_gaps_in_order, before_gaps_begin}
 use Rattle.adf_format.proofs.CountLaws.{none_holds}
 use Rattle.adf_format.proofs.FrameLaws.{field_step, put_first}
 use Rattle.adf_format.proofs.FieldLaws.{get_field}

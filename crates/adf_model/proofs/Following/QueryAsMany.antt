@@ -1,5 +1,5 @@
 -- Where no link is met, a query about a node of one open file is answered among many files as on its tree.
-use Rattle.std.proofs.Common.{◌≡◌, ◌≢◌, ℕ, ◌≤◌, arith, Bool, true, false, not, List, [], ◌∷◌, refl, sym, ◌∙◌, ap, subst}
+use Rattle.std.proofs.Common.{◌≡◌, ◌≢◌, ℕ, ◌≤◌, arith, Bool, true, false, not, List, [], ◌∷◌, refl, ◌∙◌, ap}
 use Rattle.std.specs.Prelude.{Option, Some, None, ◌||◌, if◌then◌else◌, Result, Ok, Err}
 use Rattle.adf_model.specs.declared.error.AdfError.{AdfError}
 use Rattle.adf_model.specs.declared.error.AdfError.TheVariants.{NoSuchNode, NotFound, LinkMissing}
@@ -10,7 +10,7 @@ use Rattle.adf_format.specs.Tree.{node_at, is_live, child_named, is_link_in}
 use Rattle.adf_format.specs.Links.{components, is_absolute}
 use Rattle.adf_model.specs.Tests.{checked, and_then, if_there}
 use Rattle.adf_model.specs.Slots.{Open, Files, open_at}
-use Rattle.adf_model.specs.Follow.{Spot, Follower, as_child, child_of_open, child_in, walk, follow, follow_text, text_of_open, link_text_at, reach_by, stay, child_within, start_of, search_path}
+use Rattle.adf_model.specs.Follow.{Spot, as_child, child_of_open, child_in, walk, follow, follow_text, text_of_open, reach_by, stay, child_within, start_of}
 use Rattle.adf_model.specs.Answers.{asked_node, is_followed, searched, field_within, field_at, reply_by, file_answer, answer}
 use Rattle.adf_model.proofs.Following.FollowLaws.{follow-step}
 use Rattle.adf_model.proofs.Following.OneFileLaws.{no_text, opened_at, entry_tests, reach_plain}

@@ -8,7 +8,7 @@ use Rattle.adf_format.specs.declared.types.DataType.TheVariants.{Mt, Lk}
 use Rattle.adf_model.specs.declared.tree.Edit.{Edit}
 use Rattle.adf_model.specs.declared.tree.NodeId.{NodeId}
 use Rattle.adf_format.specs.Names.{is_name, is_label}
-use Rattle.adf_model.specs.Tests.{Test, checked}
+use Rattle.adf_model.specs.Tests.{Test}
 use Rattle.adf_format.specs.Tree.{Node, Tree, node_at, children_at, children_of, depth_of, first_named, is_link, IsNode, IsTree}
 use Rattle.adf_model.specs.Edits.{apply, create_tests, given_children, new_node, with_new}
 use Rattle.adf_model.proofs.Keeping.Created.{IsTree-created}

@@ -9,7 +9,7 @@ use Rattle.std.proofs.lemmas.Bool.Decides.{eqb_tells}
 use Rattle.adf_format.specs.Names.{is_lk}
 use Rattle.adf_format.specs.Tree.{Node, Tree, node_at, children_of, children_at, name_of, name_at, is_link, is_among, IsAmong, families, climb, lineage, depth_of, first_named, AllDiffer, IsNode, IsTree}
 use Rattle.adf_model.proofs.Trees.LineageLemmas.{grown, Unborn, climb-grown, climb-new}
-use Rattle.adf_model.proofs.Basics.{among_head, or_none}
+use Rattle.adf_model.proofs.Basics.{among_head}
 
 -- at a serial stands the new node, or its parent with one more child, or what stood there
 data Place (nodes : List (Option Node)) (p q : ℕ) (x y now : Option Node) : Type 0 where

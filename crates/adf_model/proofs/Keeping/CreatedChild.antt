@@ -8,7 +8,7 @@ use Rattle.adf_model.specs.declared.tree.NodeId.{NodeId}
 use Rattle.adf_format.specs.Names.{is_name, is_label}
 use Rattle.adf_format.specs.Tree.{Node, Tree, IsTree, IsNode, node_at, children_at, children_of, depth_of, lineage, first_named, is_link, is_link_in, next_serial}
 use Rattle.adf_model.specs.Edits.{IsReached, apply, create_tests, given_children, new_node, with_new}
-use Rattle.adf_model.proofs.Basics.{NoneHolds, passed, same_Ok, not_false, not_le, not_true}
+use Rattle.adf_model.proofs.Basics.{NoneHolds, passed, same_Ok, not_false, not_le}
 use Rattle.adf_model.proofs.Keeping.CreateKeeps.{fresh_node}
 use Rattle.adf_model.proofs.Keeping.Created.{lineage_old, lineage_new}
 use Rattle.adf_model.proofs.Creation.CreatedNodes.{at_new, at_set, at_other, there_inside}

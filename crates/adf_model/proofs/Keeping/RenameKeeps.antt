@@ -1,6 +1,6 @@
 -- An edit that renames a node keeps a tree sound.
-use Rattle.std.proofs.Common.{◌≡◌, ◌≢◌, ℕ, zero, suc, ◌^◌, ◌<◌, ◌≤◌, Bool, true, false, not, List, [], ◌∷◌, length, map, get_or, refl, sym, ◌∙◌, ap, subst, arith, inl, inr}
-use Rattle.std.specs.Prelude.{Option, Some, None, IsTrue, is_some, bytes_eq, Ok}
+use Rattle.std.proofs.Common.{◌≡◌, ◌≢◌, ℕ, ◌^◌, ◌≤◌, Bool, true, false, not, List, [], ◌∷◌, length, map, refl, sym, ◌∙◌, ap, subst, inl, inr}
+use Rattle.std.specs.Prelude.{Some, None, IsTrue, is_some, bytes_eq, Ok}
 use Rattle.std.proofs.Math.Seq.{map-set_same}
 use Rattle.std.proofs.lemmas.List.{length-set, get_or-set_other, get_or-set_same}
 use Rattle.adf_format.specs.Names.{is_name}
@@ -10,7 +10,7 @@ use Rattle.adf_model.specs.declared.tree.Edit.{Edit}
 use Rattle.adf_model.specs.declared.tree.NodeId.{NodeId}
 use Rattle.adf_model.specs.Tests.{if_there}
 use Rattle.adf_model.specs.Edits.{apply, with_node, has_named, other_children}
-use Rattle.adf_model.proofs.Basics.{not_true, not_false, not_there, same_Some, same_Ok, passed, found}
+use Rattle.adf_model.proofs.Basics.{not_true, not_false, same_Some, same_Ok, passed, found}
 use Rattle.adf_model.proofs.Trees.DifferLemmas.{AllDiffer-changed, map_agree, among-others}
 use Rattle.adf_model.proofs.Keeping.Keeps.{at-set, one_changed}
 use Rattle.adf_model.proofs.Trees.SubtreeLemmas.{parent_is}

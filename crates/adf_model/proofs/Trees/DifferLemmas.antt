@@ -1,12 +1,11 @@
 -- Names that all differ.
 use Rattle.std.proofs.Common.{◌≡◌, ◌≢◌, ℕ, suc, ◌≤◌, length, arith, Bool, true, false, not, List, [], ◌∷◌, map, refl, sym, ◌∙◌, ap, subst, inl, inr}
-use Rattle.std.specs.Prelude.{Option, Some, is_some, IsTrue, ◌==◌, ◌||◌, filter, bytes_eq, if◌then◌else◌}
+use Rattle.std.specs.Prelude.{IsTrue, ◌==◌, ◌||◌, filter, bytes_eq, if◌then◌else◌}
 use Rattle.std.specs.List.{list_any}
 use Rattle.std.proofs.lemmas.Bool.Decides.{eqb_tells}
 use Rattle.std.proofs.lemmas.Slice.Eq.{bytes_eq-Decides}
-use Rattle.adf_format.specs.Tree.{Tree, name_at, first_named, is_among, IsAmong, AllDiffer}
+use Rattle.adf_format.specs.Tree.{is_among, IsAmong, AllDiffer}
 use Rattle.adf_model.proofs.Basics.{not_true, false_of, or_parts, or_right, or_none, among_head}
-use Rattle.adf_model.proofs.Keeping.Created.{none_named, if_none}
 
 pub bytes_eq_same : (a : List ℕ) → bytes_eq a a ≡ true
 bytes_eq_same a = (bytes_eq-Decides a a).1 refl

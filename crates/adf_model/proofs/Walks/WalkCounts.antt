@@ -8,13 +8,12 @@ use Rattle.adf_format.specs.Hex.{digit_value, hex_value, hex_value_after}
 use Rattle.adf_format.specs.Pointer.{Pointer, Blank, To, pointer, place_of, place_value}
 use Rattle.adf_format.specs.Fields.{field, number}
 use Rattle.adf_format.specs.Tiles.{total_length}
-use Rattle.adf_format.specs.Parts.{node_length}
 use Rattle.adf_format.specs.Tree.{next_serial}
-use Rattle.adf_format.specs.Checks.{Fault, first_broken, Walk, finished, stopped, passed}
-use Rattle.adf_format.specs.FirstFault.{NodeWalk, visit_rows, visit_extents, found_extents, has_room, end_in, is_wide, Visit, child_visits}
+use Rattle.adf_format.specs.Checks.{Fault, Walk, finished, stopped, passed}
+use Rattle.adf_format.specs.FirstFault.{NodeWalk, visit_rows, visit_extents, found_extents, end_in, is_wide, Visit, child_visits}
 use Rattle.adf_format.specs.SoundPart.{tree_of}
 use Rattle.adf_format.proofs.PointerLaws.{pointer_tells}
-use Rattle.adf_format.proofs.WalkLaws.{all_kept, total_length-append, roomy, room_tells}
+use Rattle.adf_format.proofs.WalkLaws.{total_length-append, roomy}
 use Rattle.adf_model.proofs.Basics.{not_there, same_Some, and_parts}
 
 -- ---- digits
