@@ -2,6 +2,7 @@
 pub mod Keeps
 pub mod Created
 pub mod CreateKeeps
+pub mod JoinedChild
 pub mod CreatedChild
 pub mod RenameKeeps
 pub mod LinkKeeps

@@ -8,3 +8,4 @@ pub mod Data
 pub mod Groups
 pub mod Reading
 pub mod Whole
+pub mod Facts

@@ -3,3 +3,4 @@ pub mod NodeIsRead
 pub mod PlacesFound
 pub mod TreesRead
 pub mod VerdictRead
+pub mod OnePlacement

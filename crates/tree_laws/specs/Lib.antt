@@ -28,3 +28,4 @@ pub mod Spared
 pub mod WholeEdits
 pub mod WholeData
 pub mod WholeGroups
+pub mod TreeFacts

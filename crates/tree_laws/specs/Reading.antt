@@ -73,6 +73,10 @@ OneTree =
     (image : List ℕ) (t u : Tree) (p q : Placement) (places : List (Option ℕ)) → LaysOut image t p
     → LaysOut image u q → ArePlaces p places → ArePlaces q places → (t ≡ u) × (p ≡ q)
 
+-- and one image and one tree have one placement
+abbrev pub OnePlacement : Type 0
+OnePlacement = (image : List ℕ) (tree : Tree) (p q : Placement) → LaysOut image tree p → LaysOut image tree q → p ≡ q
+
 -- the headers of two live serials differ
 abbrev pub HeadersDiffer : Type 0
 HeadersDiffer =

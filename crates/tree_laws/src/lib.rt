@@ -6,6 +6,7 @@
 pub mod data_laws;
 pub mod delete_laws;
 pub mod edit_laws;
+pub mod fact_laws;
 pub mod group_laws;
 pub mod holding_laws;
 pub mod leaving_laws;

@@ -1,0 +1,3 @@
+-- What edits leave of the tree, as a table of the nodes needs it.
+pub mod ChangedInPlace
+pub mod JoinedTree
