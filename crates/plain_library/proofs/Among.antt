@@ -57,10 +57,10 @@ set_there (file ∷ files) (suc n) slot there = set_there files n slot there
 -- ---- devices
 
 pub read_same : (a b : Device) → b ≡ a → OnlyRead a b
-read_same a b is = subst (OnlyRead a) (sym is) (record { held = refl; faults = omega arith; lost = refl; writes = refl })
+read_same a b is = subst (OnlyRead a) (sym is) (record { held = refl; faults = omega arith; lost = refl; reads = omega arith; writes = refl })
 
 fell_not : (a b : Device) → b ≡ a → NoneFell a b
-fell_not a b is = subst (NoneFell a) (sym is) (record { faults = omega arith; lost = omega arith; writes = omega arith })
+fell_not a b is = subst (NoneFell a) (sym is) (record { faults = omega arith; lost = omega arith; reads = omega arith; writes = omega arith })
 
 pub unchanged : (files : Files) (before : Devices) (n : ℕ) → OneSet n files before (slot_at files n) before files
 unchanged files before n = record { made = sym (with_same files n); others = λ k ne. refl; count = refl }
@@ -89,7 +89,7 @@ module _ (n : ℕ) (files : Files) (before : Devices) (slot : model.Slot) (now :
       | inl is ↦ subst (λ i. OnlyRead (device_at before i) (device_at now i)) (sym is) read
       | inr other ↦ read_same (device_at before k) (device_at now k) (one.others k other)
     ];
-    counts = counts_among (record { faults = read.faults; lost = omega (arith, read.lost); writes = omega (arith, read.writes) });
+    counts = counts_among (record { faults = read.faults; lost = omega (arith, read.lost); reads = read.reads; writes = omega (arith, read.writes) });
   }
 
   pub others_placed : OthersStayPlaced (Some n) before now
@@ -108,9 +108,9 @@ module _ (n : ℕ) (files : Files) (before : Devices) (slot : model.Slot) (now :
     elsewhere : (k : ℕ) → k ≢ n → slot_at after k ≡ slot_at files k
     elsewhere k ne = ap (λ (fs : Files). slot_at fs k) one.made ∙ slot_other files n k slot ne
 
-    told_among : is_gone slot ≡ is_gone (slot_at files n) → (IsSome (device_at before n).held → IsSome (device_at now n).held) → (k : ℕ) → IsToldAt (slot_at files k) (device_at before k) → IsToldAt (slot_at after k) (device_at now k)
-    told_among same keeps k = elim (cases_eq k n) [
-      | inl is ↦ subst (λ i. IsToldAt (slot_at files i) (device_at before i) → IsToldAt (slot_at after i) (device_at now i)) (sym is) (λ told stands. keeps (told (sym same ∙ ap is_gone (sym there) ∙ stands)))
+    told_among : (IsToldAt (slot_at files n) (device_at before n) → IsToldAt slot (device_at now n)) → (k : ℕ) → IsToldAt (slot_at files k) (device_at before k) → IsToldAt (slot_at after k) (device_at now k)
+    told_among tells k = elim (cases_eq k n) [
+      | inl is ↦ subst (λ i. IsToldAt (slot_at files i) (device_at before i) → IsToldAt (slot_at after i) (device_at now i)) (sym is) (λ told. subst (λ (s : model.Slot). IsToldAt s (device_at now n)) (sym there) (tells told))
       | inr ne ↦ subst (λ (d : Device). IsToldAt (slot_at files k) (device_at before k) → IsToldAt (slot_at after k) d) (sym (one.others k ne))
           (subst (λ (s : model.Slot). IsToldAt (slot_at files k) (device_at before k) → IsToldAt s (device_at before k)) (sym (elsewhere k ne)) (λ told. told))
     ]
@@ -122,8 +122,11 @@ module _ (n : ℕ) (files : Files) (before : Devices) (slot : model.Slot) (now :
           (subst (λ (s : model.Slot). IsLaidOutAt (slot_at files k) (device_at before k) → IsLaidOutAt s (device_at before k)) (sym (elsewhere k ne)) (λ laid. laid))
     ]
 
+    pub layouts_by : (IsToldAt (slot_at files n) (device_at before n) → IsToldAt slot (device_at now n)) → (IsLaidOutAt (slot_at files n) (device_at before n) → IsLaidOutAt slot (device_at now n)) → KeepsLayouts files before now after
+    layouts_by tells lays = record { told = told_among tells; laid_out = laid_among lays }
+
     pub layouts_among : is_gone slot ≡ is_gone (slot_at files n) → (IsSome (device_at before n).held → IsSome (device_at now n).held) → (IsLaidOutAt (slot_at files n) (device_at before n) → IsLaidOutAt slot (device_at now n)) → KeepsLayouts files before now after
-    layouts_among same tells lays = record { told = told_among same tells; laid_out = laid_among lays }
+    layouts_among same tells lays = layouts_by (λ told stands. tells (told (sym same ∙ stands))) lays
 
 -- ---- slots
 

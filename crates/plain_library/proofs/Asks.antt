@@ -3,7 +3,7 @@ use Rattle.std.proofs.Common.{◌≡◌, ℕ, List, [], ◌∷◌, map, arith, r
 use Rattle.std.specs.Prelude.{Option, Some, None, Result, Ok, Err, ◌||◌, if◌then◌else◌, is_some, IfOk}
 use Rattle.adf_format.specs.Tree.{Tree, Node, node_at, children_at, children_of, is_live, is_link_in}
 use Rattle.adf_model.specs.declared.error.AdfError.{AdfError}
-use Rattle.adf_model.specs.declared.error.AdfError.TheVariants.{Memory, ReadFault, NotOpen, NoSuchFile, NoSuchNode}
+use Rattle.adf_model.specs.declared.error.AdfError.TheVariants.{Memory, ReadFault, NotOpen, NoSuchFile, NoSuchNode, Layout}
 use Rattle.adf_model.specs.declared.tree.NodeId.{NodeId}
 use Rattle.adf_model.specs.declared.tree.Query.{Query}
 use Rattle.adf_model.specs.declared.tree.Reply.{Reply}
@@ -101,6 +101,7 @@ asking_among files before node result plain is = by_result result is
     by_result (Ok reply) is = (sym (answered files node plain reply is.0 is.1), tt, refl, read, placed)
     by_result (Err Memory) is = (tt, refl, refl, read, placed)
     by_result (Err ReadFault) is = absurd (not_true (entry_plain (slot_at files node.file) node.serial ReadFault is))
+    by_result (Err (Layout rule place)) is = absurd (not_true (entry_plain (slot_at files node.file) node.serial (Layout rule place) is))
     by_result (Err error) is = (
       sym (refused_by (tests_at_entry files (node ∷ [])) (reply_to files (Query.ChildrenOf node) None) error (ap first_refusal (same_tests files node) ∙ is)),
       first_of_kind (may_refuse (Query.ChildrenOf node)) (entry_tests (slot_at files node.file) node.serial) error (refl, (refl, (refl, (refl, tt)))) is,

@@ -214,7 +214,7 @@ changed_within n (suc m) old new lt = elim (cases_lt n m) [
 -- ---- counts, and answers
 
 pub counts_on : (a b c : DeviceState) → NoCountFell a b → NoCountFell b c → NoCountFell a c
-counts_on a b c one two = record { faults = omega (arith, one.faults, two.faults); lost = omega (arith, one.lost, two.lost); writes = omega (arith, one.writes, two.writes) }
+counts_on a b c one two = record { faults = omega (arith, one.faults, two.faults); lost = omega (arith, one.lost, two.lost); reads = omega (arith, one.reads, two.reads); writes = omega (arith, one.writes, two.writes) }
 
 pub on_err : (P : Type 0) (result : Result Unit AdfError) → P → OnErr result P
 on_err P (Ok done) p = tt

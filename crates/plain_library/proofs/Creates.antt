@@ -1,9 +1,9 @@
 -- A child created in one file is a group of one edit among all files.
 use Rattle.std.proofs.Common.{◌≡◌, ◌≢◌, ◌⊎◌, inl, inr, ℕ, zero, suc, ◌<◌, List, [], ◌∷◌, refl, sym, ◌∙◌, ap, subst, arith, Bool, true, false, not}
-use Rattle.std.specs.Prelude.{Option, Some, None, IsSome, is_some, Result, Ok, Err, ◌||◌, slice_get, if◌then◌else◌}
+use Rattle.std.specs.Prelude.{Option, Some, None, IsSome, IsTrue, is_some, Result, Ok, Err, ◌||◌, slice_get, if◌then◌else◌}
 use Rattle.adf_format.specs.Tree.{Tree, node_at, is_live, is_link_in}
 use Rattle.adf_model.specs.declared.error.AdfError.{AdfError}
-use Rattle.adf_model.specs.declared.error.AdfError.TheVariants.{Memory, ReadFault, WriteFault, NoSuchNode, LinkMissing, ReadOnly, Full}
+use Rattle.adf_model.specs.declared.error.AdfError.TheVariants.{Memory, ReadFault, WriteFault, NoSuchNode, LinkMissing, ReadOnly, Full, Layout}
 use Rattle.adf_model.specs.declared.tree.Edit.{Edit}
 use Rattle.adf_model.specs.declared.tree.NodeId.{NodeId}
 use Rattle.adf_model.specs.Tests.{first_refusal, checked, and_then}
@@ -12,7 +12,7 @@ use Rattle.adf_model.specs.Slots.{Open, Slot, Standing, standing_of, standings, 
 use Rattle.adf_model.specs.Slots.Slot.{Live}
 use Rattle.adf_model.specs.Calls.{Group, tests_of_files, tests_at_entry, resolve, group_of, group_after, edit_reached, group_step, group_from, edit_group}
 use Rattle.adf_model.specs.Steps.{NoneFell, Edited, StopsAt, Refused, MayEdit, HasCauseOf, is_foreign_to_edits, Changed}
-use Rattle.adf_model.specs.Causes.{EntersFiles, RefusalLeaves, IsIndex, ChangedAnyway}
+use Rattle.adf_model.specs.Causes.{EntersFiles, RefusalLeaves, IsIndex, ChangedAnyway, may_refuse_edit}
 use Rattle.adf_model.specs.Runs.{EditsTold, IsToldFor}
 use Rattle.session.specs.Calls.{PlainStops, PlainStep}
 use Rattle.adf_model.proofs.Following.StepTests.{step_tests}
@@ -25,7 +25,8 @@ use Rattle.plain_library.proofs.FirstOf.{refused_by}
 use Rattle.plain_library.specs.Calls.{IsCreatedAt, CreatedAt, BrokenAt, KeepsAll, IsTreeRefusal, EntersAt, entry_tests, as_group}
 use Rattle.plain_library.proofs.Among.{OneSet, set_there, same_files, others_read, all_read, others_placed, all_placed, read_same}
 use Rattle.plain_library.proofs.Asks.{HasNoLinks, is_there, same_tests}
-use Rattle.plain_library.proofs.Steps.{create_plain, tree_plain, create_not_of_files, create_not_foreign, entry_not_foreign}
+use Rattle.adf_model.proofs.EditCauses.{applied_refused}
+use Rattle.plain_library.proofs.Steps.{first_of_kind, create_plain, tree_plain, create_not_of_files, create_not_foreign, entry_not_foreign}
 
 same_open : (a o : Open) → a.writable ≡ o.writable → a.limit ≡ o.limit → a ≡ record o { tree = a.tree }
 same_open a o w l = ap (λ b. record a { writable = b }) w ∙ ap (λ n. record { tree = a.tree; writable = o.writable; limit = n }) l
@@ -167,13 +168,14 @@ module _ (files : Files) (before : Devices) (parent : NodeId) (name label : List
     at_first : (error : AdfError) → EntersFiles {A = Unit} files (parent ∷ []) true (Err error) → (e : Edit) → slice_get edits 0 ≡ Some e → EntersFiles {A = Unit} files (named_nodes e) (is_some (followed e)) (Err error)
     at_first error enters e at = subst (λ (x : Edit). EntersFiles {A = Unit} files (named_nodes x) (is_some (followed x)) (Err error)) (same_Some edit e at) enters
 
-    refused_first : {Cause : Type 0} (error : AdfError) → (IsIndex edits 0 error) → Refused Cause files before now after → RefusalLeaves error files before edits now after → HasCauseOf files before now error → EntersFiles {A = Unit} files (parent ∷ []) true (Err error)
+    refused_first : {Cause : Type 0} (error : AdfError) → (IsIndex edits 0 error) → Refused Cause files before now after → RefusalLeaves error files before edits now after → HasCauseOf files before now error → EntersFiles {A = Unit} files (parent ∷ []) true (Err error) → IsTrue (may_refuse_edit edit error)
         → ChangedAnyway {A = List NodeId} files before edits (Err (record { at = 0; error = error })) now after
-    refused_first error index kept leaves cause enters = record {
+    refused_first error index left leaves cause enters may = record {
       leaves = leaves;
-      names = ap names_there kept.files_stay;
+      names = ap names_there left.files_stay;
       entry = record { passed = λ i e lt at. absurd (none i lt); index = index; refused = at_first error enters };
       cause = cause;
+      kind = λ e at. subst (λ (x : Edit). IsTrue (may_refuse_edit x error)) (same_Some edit e at) may;
     }
       where
         none : (i : ℕ) → i < 0 → ⊥
@@ -193,6 +195,13 @@ module _ (files : Files) (before : Devices) (parent : NodeId) (name label : List
         by_first None e h = create_not_foreign h.0.tree parent name label error h.2
         by_first (Some first) e h = ap is_foreign_to_edits h ∙ entry_not_foreign own parent.serial first e
 
+    own_kind : (error : AdfError) → IsTreeRefusal own parent name label (first_refusal (entry_tests own parent.serial)) error → IsTrue (may_refuse_edit edit error)
+    own_kind error h = by_first (first_refusal (entry_tests own parent.serial)) refl h
+      where
+        by_first : (o : Option AdfError) → first_refusal (entry_tests own parent.serial) ≡ o → IsTreeRefusal own parent name label o error → IsTrue (may_refuse_edit edit error)
+        by_first None e h = applied_refused h.0.tree edit error h.2
+        by_first (Some first) e h = first_of_kind (may_refuse_edit edit) (entry_tests own parent.serial) error (refl, (refl, (refl, (refl, tt)))) (e ∙ ap Some (sym h))
+
     pub creating_anyway : (result : Result (List NodeId) AdfError) → (IsSome (device_at before parent.file).held → IsSome (device_at now parent.file).held) → IsCreatedAt own (device_at before parent.file) parent name label result (device_at now parent.file) slot
         → ChangedAnyway files before edits (as_group result) now after
     unfolding stops_among
@@ -203,10 +212,11 @@ module _ (files : Files) (before : Devices) (parent : NodeId) (name label : List
           names = told_names files after before now edits (Ok created) h;
           entry = record { passed = λ i e lt at. passes_first i e lt at is.enters.entered; index = tt; refused = tt };
           cause = tt;
+          kind = tt;
         }
     creating_anyway (Err Memory) tells is =
         let k = kept first is in
-        refused_first Memory (omega arith) k (ap standings k.files_stay, k.devices_stay, k.placed) refl (lacks_memory files parent)
+        refused_first Memory (omega arith) k (ap standings k.files_stay, k.devices_stay, k.placed) refl (lacks_memory files parent) refl
     creating_anyway (Err WriteFault) tells is =
         let h = (stops_among is).stop in
         record {
@@ -214,11 +224,13 @@ module _ (files : Files) (before : Devices) (parent : NodeId) (name label : List
           names = ap names_there h.broken ∙ names_with files parent.file Slot.Broken (sym (ap is_gone is.enters.live));
           entry = record { passed = λ i e lt at. passes_first i e lt at is.enters.entered; index = refl; refused = λ e at. absurd (not_there e at) };
           cause = refl;
+          kind = λ e at. absurd (not_there e at);
         }
     creating_anyway (Err (Full asked end)) tells is =
         let k = kept first is.1 in
-        refused_first (Full asked end) (omega arith) k (ap standings k.files_stay, k.devices_stay, k.placed) refl (tree_refused files parent (Full asked end) is.0.enters.entered refl)
+        refused_first (Full asked end) (omega arith) k (ap standings k.files_stay, k.devices_stay, k.placed) refl (tree_refused files parent (Full asked end) is.0.enters.entered refl) refl
     creating_anyway (Err ReadFault) tells is = absurd (not_true (tree_plain own parent name label ReadFault is.0))
+    creating_anyway (Err (Layout rule place)) tells is = absurd (not_true (tree_plain own parent name label (Layout rule place) is.0))
     creating_anyway (Err error) tells is =
         let k = kept first is.1 in
-        refused_first error (omega arith) k (ap standings k.files_stay, k.devices_stay, k.placed) (own_cause error is.0) (entry_of error is.0)
+        refused_first error (omega arith) k (ap standings k.files_stay, k.devices_stay, k.placed) (own_cause error is.0) (entry_of error is.0) (own_kind error is.0)

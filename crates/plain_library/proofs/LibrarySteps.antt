@@ -9,34 +9,36 @@ use Rattle.adf_model.specs.declared.tree.NodeId.{NodeId}
 use Rattle.adf_model.specs.declared.tree.Query.{Query}
 use Rattle.adf_model.specs.declared.tree.Reply.{Reply}
 use Rattle.adf_model.specs.Slots.{Files, Devices, device_at, slot_at, is_gone, no_device}
-use Rattle.adf_model.specs.Steps.{Opened, Closed, Asked, Changed, Fresh, NoneFell, OnlyRead, IsLaidOutAt}
+use Rattle.adf_model.specs.Steps.{Opened, Closed, Discarded, Asked, Changed, Fresh, NoneFell, OnlyRead, IsLaidOutAt}
 use Rattle.adf_model.specs.Runs.{KeepsLayouts}
 use Rattle.adf_model.proofs.Answering.StandingLaws.{opening_anyway, closing_anyway}
+use Rattle.adf_model.proofs.StandingLaws.{opening_anyway, closing_anyway, discarding_anyway}
 use Rattle.cg_io.specs.Device.{DeviceState}
 use Rattle.session.specs.Calls.{PlainMakes}
 use Rattle.plain_library.specs.declared.shelf.Slot.{Slot}
-use Rattle.plain_library.specs.Calls.{IsOpenedAt, IsClosedAt, IsAskedAt, IsCreatedAt, as_group}
+use Rattle.plain_library.specs.declared.shelf.Place as code
+use Rattle.plain_library.specs.declared.shelf.Place.TheVariants as place
+use Rattle.plain_library.specs.Shelf.{place_of}
+use Rattle.plain_library.specs.Calls.{IsOpenedAt, IsClosedAt, IsDiscardedAt, IsDroppedAt, IsAskedAt, IsCreatedAt, as_group}
 use Rattle.plain_library.specs.Library.{file_in, device_in, device_by, placement_in, IsReadySlot}
 use Rattle.plain_library.proofs.Among.{OneSet, layouts_among, slot_here, device_here, device_now, slot_changed, read_same}
 use Rattle.plain_library.proofs.Asks.{HasNoLinks, asking_among, asking_anyway}
 use Rattle.plain_library.proofs.Creates.{creating_among, creating_anyway}
 use Rattle.plain_library.proofs.NoLinks.{no_links}
 use Rattle.plain_library.proofs.SlotLaws.{All-set}
-use Rattle.plain_library.proofs.Steps.{opening_among, closing_among}
+use Rattle.plain_library.proofs.Steps.{opening_among, closing_among, discarding_among, discarding_layouts}
 
 -- a device that stays in its slot was not written
-pub stayed : {D : Type 0} (state : D → DeviceState) (old new : Slot D) → new.device ≡ old.device → OnlyRead (device_in state old) (device_in state new)
-stayed state old new is = by_device old.device new.device is
+pub stayed : {D : Type 0} (state : D → DeviceState) (old new : Slot D) → new.place ≡ old.place → OnlyRead (device_in state old) (device_in state new)
+stayed {D = D} state old new is = subst (λ (p : code.Place D). OnlyRead (device_in state old) (device_by (placement_in new.work) (place_of state p))) (sym is) (by_place old.place)
   where
-    by_state : (o : Option DeviceState) → OnlyRead (device_by (placement_in old.work) o) (device_by (placement_in new.work) o)
-    by_state None = read_same no_device no_device refl
-    by_state (Some s) = record { held = refl; faults = omega arith; lost = refl; writes = refl }
-
-    by_device : (one other : Option _) → other ≡ one → OnlyRead (device_by (placement_in old.work) (option_map state one)) (device_by (placement_in new.work) (option_map state other))
-    by_device one other is = subst (λ (o : Option _). OnlyRead (device_by (placement_in old.work) (option_map state one)) (device_by (placement_in new.work) (option_map state o))) (sym is) (by_state (option_map state one))
+    by_place : (there : code.Place D) → OnlyRead (device_by (placement_in old.work) (place_of state there)) (device_by (placement_in new.work) (place_of state there))
+    by_place (place.There device) = record { held = refl; faults = omega arith; lost = refl; reads = omega arith; writes = refl }
+    by_place place.Taken = read_same no_device no_device refl
+    by_place (place.Gone husk) = record { held = refl; faults = omega arith; lost = refl; reads = omega arith; writes = refl }
 
 module _ {D : Type 0} (state : D → DeviceState) (slots : List (Slot D)) (n : ℕ) (old new : Slot D) (within : n < length slots) (is : old ≡ get_or slots n old)
-    (name : (file_in new).name ≡ (file_in old).name) (gone : is_gone (file_in new).slot ≡ is_gone (file_in old).slot) where
+    (name : (file_in new).name ≡ (file_in old).name) where
   abbrev files : Files
   files = map file_in slots
 
@@ -64,8 +66,8 @@ module _ {D : Type 0} (state : D → DeviceState) (slots : List (Slot D)) (n : �
   device_left : device_at now n ≡ device_in state new
   device_left = device_now state slots n old new within is
 
-  pub layouts_in : (IsSome (device_in state old).held → IsSome (device_in state new).held) → (IsLaidOutAt (file_in old).slot (device_in state old) → IsLaidOutAt (file_in new).slot (device_in state new)) → KeepsLayouts files before now after
-  layouts_in tells lays = layouts_among n files before (file_in new).slot now after one inside (gone ∙ ap is_gone (sym own)) (rw (device, device_left) tells) (rw (own, device, device_left) lays)
+  pub layouts_in : is_gone (file_in new).slot ≡ is_gone (file_in old).slot → (IsSome (device_in state old).held → IsSome (device_in state new).held) → (IsLaidOutAt (file_in old).slot (device_in state old) → IsLaidOutAt (file_in new).slot (device_in state new)) → KeepsLayouts files before now after
+  layouts_in gone tells lays = layouts_among n files before (file_in new).slot now after one inside (gone ∙ ap is_gone (sym own)) (rw (device, device_left) tells) (rw (own, device, device_left) lays)
 
   fell_in : NoneFell (device_in state old) (device_in state new) → NoneFell (device_at before n) (device_at now n)
   fell_in fell = rw (device, device_left) fell
@@ -81,10 +83,22 @@ module _ {D : Type 0} (state : D → DeviceState) (slots : List (Slot D)) (n : �
       record { step = λ told. step; layouts = layouts; anyway = opening_anyway files after before now n limit (Fresh false) result step.0 step.1 }
 
   pub closing_in : (result : Result Unit AdfError) → IsClosedAt (file_in old).slot result (file_in new).slot → OnErr result ((device_in state new).placement ≡ (device_in state old).placement)
-      → new.device ≡ old.device → KeepsLayouts files before now after → PlainMakes files before (Closed n result) now after
+      → new.place ≡ old.place → KeepsLayouts files before now after → PlainMakes files before (Closed n result) now after
   closing_in result closed placed same layouts =
       let step = closing_among files before now n (file_in new).slot result after one (rw own closed) (rw (device, device_left) placed) (rw (device, device_left) (stayed state old new same)) in
       record { step = λ told. step; layouts = layouts; anyway = closing_anyway files after before now n result step.0 step.1 step.2 }
+
+  -- a device is dropped, or stays
+  pub discarding_in : (result : Result Unit AdfError) → IsDiscardedAt (file_in old).slot result (file_in new).slot → IsDroppedAt (device_in state old) result (device_in state new) → PlainMakes files before (Discarded n result) now after
+  discarding_in result discarded dropped =
+      let dropped_here : IsDroppedAt (device_at before n) result (device_at now n) = rw (device, device_left) dropped in
+      let discarded_here : IsDiscardedAt (slot_at files n) result (file_in new).slot = rw own discarded in
+      let step = discarding_among files before now n (file_in new).slot result after one discarded_here dropped_here in
+      record {
+        step = λ told. step;
+        layouts = discarding_layouts files before now n (file_in new).slot result after one inside discarded_here dropped_here;
+        anyway = discarding_anyway files after before now n result step.0 step.1 step.2;
+      }
 
   plain : HasNoLinks (slot_at files n)
   plain = rw own (no_links old)

@@ -19,7 +19,7 @@ use Rattle.plain_library.specs.declared.open_file.Core.{Core}
 use Rattle.plain_library.specs.Calls.{IsOpenedAt, open_refusal}
 use Rattle.plain_library.specs.Committing.{NoCountFell}
 use Rattle.plain_library.specs.Core.{IsCore, core_tree, core_placement}
-use Rattle.plain_library.specs.Fresh as fresh
+use Rattle.adf_model.specs.Counts.{OnlyReads}
 use Rattle.adf_format.specs.Fresh.{fresh_block, fresh_placement}
 use Rattle.plain_library.specs.Fresh.{MakesFresh, WritesFirst}
 use Rattle.plain_library.specs.Library.{IsReadyWork, placed_device, placement_in, slot_in, opened_work}
@@ -109,8 +109,8 @@ module _ (core : Core) (kept : Work) (old new : DeviceState) (limit : ℕ) (is :
   refused_for : (error : AdfError) (now : Device) → IsOpenRefusal (Fresh false) own before now error → IsFirstOr (open_refusal own) error (IsOpenRefusal (Fresh false) own before now error)
   refused_for error now why = subst (λ (o : Option AdfError). IsFirstOr o error (IsOpenRefusal (Fresh false) own before now error)) (sym (no_fault own (never_gone kept) shut)) why
 
-  only_read : fresh.OnlyRead old new → OnlyRead before (placed_device (placement_in kept) new)
-  only_read read = record { held = read.held; faults = counts.faults; lost = read.lost; writes = read.writes }
+  only_read : OnlyReads old new → OnlyRead before (placed_device (placement_in kept) new)
+  only_read read = record { held = read.held; faults = read.faults; lost = read.lost; reads = read.reads; writes = read.writes }
 
   told_empty : (one : List ℕ) → IfSome old.held (λ bytes. bytes ≡ []) → old.held ≡ Some one → one ≡ []
   told_empty one none told = subst (λ (h : Option (List ℕ)). IfSome h (λ bytes. bytes ≡ [])) told none
@@ -164,7 +164,7 @@ module _ (core : Core) (kept : Work) (old new : DeviceState) (limit : ℕ) (is :
   opened_told (Err error) m some = absurd m.0
 
   pub opened_laid : (made : Result Unit AdfError) → MakesFresh made old new → IsLaidOut own before old.held → IsLaidOut (slot_in (opened_work made core kept)) (placed_device (placement_in (opened_work made core kept)) new) new.held
-  opened_laid (Ok done) m laid = open_laid (λ (d : DeviceState). d) [] core (Some new) (opened_ready (Ok done) m)
+  opened_laid (Ok done) m laid = open_laid core new (opened_ready (Ok done) m)
   opened_laid (Err WriteFault) m laid = tt
   opened_laid (Err NotEmpty) m laid = same_laid kept old new shut m.0.1.held laid
   opened_laid (Err ReadFault) m laid = same_laid kept old new shut m.0.1.held laid

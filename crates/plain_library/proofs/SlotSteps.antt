@@ -23,12 +23,15 @@ use Rattle.plain_library.specs.declared.open_file.Work.TheVariants as work
 use Rattle.plain_library.specs.declared.open_file.Row.{Row}
 use Rattle.plain_library.specs.declared.open_file.Core.{Core}
 use Rattle.plain_library.specs.Calls.{IsCreatedAt, CreatedAt, BrokenAt, FullAt, EntersAt, IsTreeRefusal, KeepsAll, entry_tests}
-use Rattle.plain_library.specs.Committing.{has_changed, FailedWrite, LeavesTorn}
+use Rattle.plain_library.specs.Committing.{has_changed, WriteFails, LeavesTorn}
 use Rattle.plain_library.proofs.BlockLaws.{changed_before_end}
 use Rattle.plain_library.specs.Core.{IsCore, core_tree, core_placement, placement_of, tree_of}
 use Rattle.plain_library.specs.Creating.{Creates, Stays, IsRefusal, IsFull}
 use Rattle.adf_format.specs.Fresh.{fresh_block}
-use Rattle.plain_library.specs.Library.{IsReadyWork, file_by, device_by, placed_device, placement_in, slot_in, created_work}
+use Rattle.plain_library.specs.declared.shelf.Place as code
+use Rattle.plain_library.specs.declared.shelf.Place.TheVariants as place
+use Rattle.plain_library.specs.Shelf.{place_of}
+use Rattle.plain_library.specs.Library.{IsReadyWork, slot_by, device_by, placed_device, placement_in, slot_in, created_work}
 use Rattle.plain_library.proofs.Rows.{all_drawn}
 use Rattle.plain_library.proofs.Room.{needs_more}
 use Rattle.plain_library.proofs.Steps.{first_of_kind}
@@ -61,26 +64,29 @@ fresh_held (Some bytes) later image is none made =
 abbrev pub open_of_core : Core → Open
 open_of_core core = record { tree = core_tree core; writable = true; limit = core.limit }
 
-module _ {D : Type 0} (state : D → DeviceState) (name : List ℕ) (core : Core) where
+module _ (core : Core) (device : DeviceState) where
   -- what is kept as its device holds it is laid out there
-  pub open_laid : (device : Option D) → IfSome device (λ d. IsReadyWork (state d) (work.Open core)) → IsLaidOutAt (file_by name (work.Open core) device).slot (device_by (core_placement core) (option_map state device))
-  open_laid None ready = tt
-  open_laid (Some d) ready = by_held (state d).held ready.1
+  pub open_laid : IsReadyWork device (work.Open core) → IsLaidOutAt (slot_in (work.Open core)) (placed_device (core_placement core) device)
+  open_laid ready = by_held device.held ready.1
     where
-      by_held : (held : Option (List ℕ)) → IfSome held (λ bytes. bytes ≡ core.image.items) → IsLaidOut (model.Slot.Live (open_of_core core)) (placed_device (core_placement core) (state d)) held
+      by_held : (held : Option (List ℕ)) → IfSome held (λ bytes. bytes ≡ core.image.items) → IsLaidOut (model.Slot.Live (open_of_core core)) (placed_device (core_placement core) device) held
       by_held None same = tt
       by_held (Some image) same = subst (λ (l : List ℕ). LaysOut l (core_tree core) (core_placement core)) (sym same) ready.0.laid_out
 
   -- and so is its tree under the numbers of the next opening, once it is closed
-  pub closed_laid : (device : Option D) → IsLaidOutAt (file_by name (work.Open core) device).slot (device_by (core_placement core) (option_map state device))
-      → IsLaidOutAt (file_by name (work.Saved core.rows) device).slot (device_by no_device.placement (option_map state device))
-  closed_laid None laid = tt
-  closed_laid (Some d) laid = by_held (state d).held laid
+  closed_laid : IsLaidOutAt (slot_in (work.Open core)) (placed_device (core_placement core) device) → IsLaidOutAt (slot_in (work.Saved core.rows)) (placed_device no_device.placement device)
+  closed_laid laid = by_held device.held laid
     where
-      by_held : (held : Option (List ℕ)) → IsLaidOut (model.Slot.Live (open_of_core core)) (placed_device (core_placement core) (state d)) held
-          → IsLaidOut (model.Slot.Saved (numbered (core_tree core))) (placed_device no_device.placement (state d)) held
+      by_held : (held : Option (List ℕ)) → IsLaidOut (model.Slot.Live (open_of_core core)) (placed_device (core_placement core) device) held
+          → IsLaidOut (model.Slot.Saved (numbered (core_tree core))) (placed_device no_device.placement device) held
       by_held None laid = tt
       by_held (Some image) laid = (numbered_placement (core_tree core) (core_placement core), numbered_laid_out image (core_tree core) (core_placement core) laid)
+
+pub closed_place : {D : Type 0} (state : D → DeviceState) (there : code.Place D) (core : Core) → IsLaidOutAt (slot_by there (work.Open core)) (device_by (core_placement core) (place_of state there))
+    → IsLaidOutAt (slot_by there (work.Saved core.rows)) (device_by no_device.placement (place_of state there))
+closed_place state (place.There device) core laid = closed_laid core (state device) laid
+closed_place state place.Taken core laid = tt
+closed_place state (place.Gone husk) core laid = tt
 
 -- ---- a new child
 
@@ -111,7 +117,7 @@ module _ (old new : Core) (parent : NodeId) (name label : List ℕ) (within : pa
   }
 
   -- its write failed
-  pub child_torn : (before now : DeviceState) → Creates old parent.serial name label new → IsCore new → IfSome before.held (λ bytes. bytes ≡ old.image.items) → FailedWrite before now → LeavesTorn old.image.items new.image.items now.held
+  pub child_torn : (before now : DeviceState) → Creates old parent.serial name label new → IsCore new → IfSome before.held (λ bytes. bytes ≡ old.image.items) → WriteFails before now → LeavesTorn old.image.items new.image.items now.held
       → BrokenAt (model.Slot.Live (open_of_core old)) (placed_device (core_placement old) before) parent name label (placed_device no_device.placement now) model.Slot.Broken
   child_torn before now creates core held failed torn = record {
     opened = open_of_core old;
@@ -182,7 +188,7 @@ module _ (old new : Core) (parent : NodeId) (name label : List ℕ) (before : De
     made = passed_by (create_tests (core_tree old) parent.serial name label) (Ok (with_new (core_tree old) parent.serial (new_node name label))) none;
     over = full;
     needed = λ told. (
-        let laid = open_laid (λ (d : DeviceState). d) [] old (Some before) (core, held) in
+        let laid = open_laid old before (core, held) in
         let end_is = end_of_open (open_of_core old) (placed_device (core_placement old) before) told laid in
         let more = needs_more old.limit (core_tree old) parent.serial (core_placement old) (record { asked = asked; end = end }) full in
         omega (arith, end_is, more)
@@ -213,6 +219,6 @@ refused_ready new state error core held = (core, held)
 
 pub made_laid : (created : Result (List NodeId) AdfError) (core : Core) (state : DeviceState) → IsReadyWork state (created_work created core)
     → IsLaidOutAt (slot_in (created_work created core)) (placed_device (placement_in (created_work created core)) state)
-made_laid (Ok nodes) core state ready = open_laid (λ (d : DeviceState). d) [] core (Some state) ready
+made_laid (Ok nodes) core state ready = open_laid core state ready
 made_laid (Err WriteFault) core state ready = tt
-made_laid (Err error) core state ready = open_laid (λ (d : DeviceState). d) [] core (Some state) ready
+made_laid (Err error) core state ready = open_laid core state ready

@@ -1,5 +1,5 @@
 -- A call on one file is a step of all files.
-use Rattle.std.proofs.Common.{◌≡◌, ℕ, List, [], ◌∷◌, refl, sym, ◌∙◌, ap, Bool, true, false, not}
+use Rattle.std.proofs.Common.{◌≡◌, ℕ, ◌≤◌, ◌<◌, length, List, [], ◌∷◌, refl, sym, ◌∙◌, ap, subst, arith, Bool, true, false, not}
 use Rattle.std.specs.Prelude.{Option, Some, None, OnErr, IfErr, Result, Ok, Err, if◌then◌else◌}
 use Rattle.adf_format.specs.Tree.{Tree}
 use Rattle.adf_model.specs.declared.error.AdfError.{AdfError}
@@ -9,13 +9,14 @@ use Rattle.adf_model.specs.declared.tree.NodeId.{NodeId}
 use Rattle.adf_model.specs.declared.tree.Reply.{Reply}
 use Rattle.adf_model.specs.Tests.{Test, first_refusal, checked}
 use Rattle.adf_model.specs.Edits.{apply, create_tests, with_new, new_node}
-use Rattle.adf_model.specs.Slots.{Slot, Files, Device, Devices, device_at, slot_at, with_slot, is_gone, is_open}
-use Rattle.adf_model.specs.Steps.{Opened, Closed, Fresh, Step, NoneFell, OnlyRead, IsFirstOr, is_foreign_to_edits}
+use Rattle.adf_model.specs.Slots.{Slot, Files, Device, Devices, device_at, slot_at, with_slot, is_gone, is_open, IsToldAt}
+use Rattle.adf_model.specs.Steps.{Opened, Closed, Discarded, IsLaidOutAt, Fresh, Step, NoneFell, OnlyRead, IsFirstOr, is_foreign_to_edits}
 use Rattle.plain_library.proofs.Entries.{is_of_files}
 use Rattle.adf_model.proofs.Basics.{not_true, not_there, not_Err, same_Some}
-use Rattle.call_script.specs.Replies.{HasRule}
-use Rattle.plain_library.specs.Calls.{IsOpenedAt, IsClosedAt, IsAskedAt, IsCreatedAt, IsTreeRefusal, entry_tests, as_group, open_refusal, fresh_open}
-use Rattle.plain_library.proofs.Among.{OneSet, same_files, others_read, all_read, others_placed, all_placed}
+use Rattle.plain_library.specs.Calls.{IsOpenedAt, IsClosedAt, IsDiscardedAt, IsDroppedAt, IsAskedAt, IsCreatedAt, IsTreeRefusal, entry_tests, as_group, open_refusal, fresh_open}
+use Rattle.adf_model.specs.Counts.{DeviceState}
+use Rattle.adf_model.specs.Runs.{KeepsLayouts}
+use Rattle.plain_library.proofs.Among.{OneSet, same_files, others_read, all_read, others_placed, all_placed, read_same, layouts_by}
 
 -- ---- openings and closings
 
@@ -39,6 +40,28 @@ closing_among files before now n slot (Ok done) after one is placed read =
 closing_among files before now n slot (Err error) after one is placed read =
     ((is.0, same_files n files before slot now after one is.1), all_read n files before slot now after one read, all_placed n files before slot now after one placed)
 
+pub discarding_among : (files : Files) (before now : Devices) (n : ℕ) (slot : Slot) (result : Result Unit AdfError) (after : Files) → OneSet n files before slot now after
+    → IsDiscardedAt (slot_at files n) result slot → IsDroppedAt (device_at before n) result (device_at now n) → Step files before (Discarded n result) now after
+discarding_among files before now n slot (Ok done) after one is dropped =
+    let fell : NoneFell (device_at before n) (device_at now n) = record {
+      faults = (let e : (device_at now n).faults ≡ (device_at before n).faults = ap (λ (s : DeviceState). s.faults) dropped in omega (arith, e));
+      lost = (let e : (device_at now n).lost ≡ (device_at before n).lost = ap (λ (s : DeviceState). s.lost) dropped in omega (arith, e));
+      reads = (let e : (device_at now n).reads ≡ (device_at before n).reads = ap (λ (s : DeviceState). s.reads) dropped in omega (arith, e));
+      writes = (let e : (device_at now n).writes ≡ (device_at before n).writes = ap (λ (s : DeviceState). s.writes) dropped in omega (arith, e));
+    } in
+    ((is.0, one.made ∙ ap (with_slot files n) is.1), (others_read n files before slot now after one fell, dropped), others_placed n files before slot now after one)
+discarding_among files before now n slot (Err error) after one is dropped =
+    ((is.0, same_files n files before slot now after one is.1), all_read n files before slot now after one (read_same (device_at before n) (device_at now n) dropped), all_placed n files before slot now after one (ap (λ (d : Device). d.placement) dropped))
+
+pub discarding_layouts : (files : Files) (before now : Devices) (n : ℕ) (slot : Slot) (result : Result Unit AdfError) (after : Files) → OneSet n files before slot now after → n < length files
+    → IsDiscardedAt (slot_at files n) result slot → IsDroppedAt (device_at before n) result (device_at now n) → KeepsLayouts files before now after
+discarding_layouts files before now n slot (Ok done) after one inside is dropped =
+    layouts_by n files before slot now after one inside (λ told stands. absurd (not_true (sym stands ∙ ap is_gone is.1))) (λ laid. subst (λ (s : Slot). IsLaidOutAt s (device_at now n)) (sym is.1) tt)
+discarding_layouts files before now n slot (Err error) after one inside is dropped =
+    layouts_by n files before slot now after one inside
+    (λ told. subst (λ (d : Device). IsToldAt slot d) (sym dropped) (subst (λ (s : Slot). IsToldAt s (device_at before n)) (sym is.1) told))
+    (λ laid. subst (λ (d : Device). IsLaidOutAt slot d) (sym dropped) (subst (λ (s : Slot). IsLaidOutAt s (device_at before n)) (sym is.1) laid))
+
 -- ---- errors
 
 -- neither a failed read, nor a fault of the layout, nor a link
@@ -60,10 +83,6 @@ first_of_kind kind (test ∷ tests) error all e = by_test test.0 (first_of_kind 
     by_test : (b : Bool) → (first_refusal tests ≡ Some error → kind error ≡ true) → (if b then Some test.1 else first_refusal tests) ≡ Some error → kind error ≡ true
     by_test true later e = ap kind (sym (same_Some test.1 error e)) ∙ all.0
     by_test false later e = later e
-
-pub plain_rule : (error : AdfError) → is_plain error ≡ true → HasRule error
-plain_rule (Layout rule place) is = absurd (not_true is)
-plain_rule error is = tt
 
 pub entry_plain : (own : Slot) (serial : ℕ) (error : AdfError) → first_refusal (entry_tests own serial) ≡ Some error → is_plain error ≡ true
 entry_plain own serial error e = first_of_kind is_plain (entry_tests own serial) error (refl, (refl, (refl, (refl, tt)))) e
@@ -105,34 +124,3 @@ tree_plain own parent name label error h = by_first (first_refusal (entry_tests 
     by_first : (o : Option AdfError) → first_refusal (entry_tests own parent.serial) ≡ o → IsTreeRefusal own parent name label o error → is_plain error ≡ true
     by_first None e h = create_plain h.0.tree parent name label error h.2
     by_first (Some first) e h = ap is_plain h ∙ entry_plain own parent.serial first e
-
-open_plain : (own : Slot) (error : AdfError) (Otherwise : Type 0) → (Otherwise → is_plain error ≡ true) → IsFirstOr (open_refusal own) error Otherwise → is_plain error ≡ true
-open_plain own error Otherwise none h = by_first (open_refusal own) refl h
-  where
-    by_first : (o : Option AdfError) → open_refusal own ≡ o → IsFirstOr o error Otherwise → is_plain error ≡ true
-    by_first None e h = none h
-    by_first (Some first) e h = ap is_plain h ∙ first_of_kind is_plain ((is_gone own, NoSuchFile) ∷ (is_open own, AlreadyOpen) ∷ []) first (refl, (refl, tt)) e
-
-pub opened_rule : (own : Slot) (before : Device) (limit : ℕ) (result : Result Unit AdfError) (now : Device) (left : Slot) → IsOpenedAt own before limit result now left → IfErr result HasRule
-opened_rule own before limit (Ok done) now left is = tt
-opened_rule own before limit (Err (Layout rule place)) now left is = absurd (not_true (open_plain own (Layout rule place) ⊥ (λ none. absurd none) is.0))
-opened_rule own before limit (Err error) now left is = tt
-
-pub closed_rule : (own : Slot) (result : Result Unit AdfError) (left : Slot) → IsClosedAt own result left → IfErr result HasRule
-closed_rule own (Ok done) left is = tt
-closed_rule own (Err error) left is = plain_rule error (first_of_kind is_plain ((is_gone own, NoSuchFile) ∷ (not (is_open own), NotOpen) ∷ []) error (refl, (refl, tt)) is.0)
-
-pub asked_rule : (own : Slot) (node : NodeId) (result : Result Reply AdfError) → IsAskedAt own node result → IfErr result HasRule
-asked_rule own node (Ok reply) is = tt
-asked_rule own node (Err Memory) is = tt
-asked_rule own node (Err error) is = plain_rule error (entry_plain own node.serial error is)
-
-pub created_rule : (own : Slot) (before : Device) (parent : NodeId) (name label : List ℕ) (result : Result (List NodeId) AdfError) (now : Device) (left : Slot) → IsCreatedAt own before parent name label result now left → IfErr result HasRule
-created_rule own before parent name label (Ok created) now left is = tt
-created_rule own before parent name label (Err (Layout rule place)) now left is = absurd (not_true (tree_plain own parent name label (Layout rule place) is.0))
-created_rule own before parent name label (Err error) now left is = tt
-
-pub group_rule : (result : Result (List NodeId) AdfError) → IfErr result HasRule → IfErr (as_group result) (λ refusal. HasRule refusal.error)
-group_rule (Ok created) has = tt
-group_rule (Err WriteFault) has = tt
-group_rule (Err error) has = has

@@ -13,10 +13,10 @@ use Rattle.adf_model.specs.Need.{need}
 use Rattle.adf_model.specs.Creation.{place_child}
 use Rattle.adf_model.specs.Answers.{child_entry}
 use Rattle.adf_model.specs.Slots.{Open, Slot, Device, is_gone, is_open, is_broken, open_of, recorded_end}
-use Rattle.adf_model.specs.Slots.Slot.{Raw, Live}
+use Rattle.adf_model.specs.Slots.Slot.{Gone, Raw, Live}
 use Rattle.adf_model.specs.Calls.{is_live_in}
 use Rattle.adf_model.specs.Torn.{Torn}
-use Rattle.adf_model.specs.Steps.{OnlyRead, WriteFailed, Fresh, IsFirstOr, IsOpenRefusal, LeavesFresh, closed}
+use Rattle.adf_model.specs.Steps.{OnlyRead, WriteFailed, Fresh, IsFirstOr, IsOpenRefusal, LeavesFresh, closed, Dropped}
 
 -- ---- opening
 
@@ -50,6 +50,17 @@ close_refusal own = first_refusal ((is_gone own, NoSuchFile) ∷ (not (is_open o
 abbrev pub IsClosedAt : Slot → Result Unit AdfError → Slot → Type 0
 IsClosedAt own (Ok done) left = (close_refusal own ≡ None) × (left ≡ closed own)
 IsClosedAt own (Err error) left = (close_refusal own ≡ Some error) × (left ≡ own)
+
+-- ---- discarding
+
+abbrev pub IsDiscardedAt : Slot → Result Unit AdfError → Slot → Type 0
+IsDiscardedAt own (Ok done) left = (open_refusal own ≡ None) × (left ≡ Gone)
+IsDiscardedAt own (Err error) left = (open_refusal own ≡ Some error) × (left ≡ own)
+
+-- a discarded device is dropped, and a refused discarding leaves it
+abbrev pub IsDroppedAt : Device → Result Unit AdfError → Device → Type 0
+IsDroppedAt before (Ok done) now = Dropped before now
+IsDroppedAt before (Err error) now = now ≡ before
 
 -- ---- asking and creating
 

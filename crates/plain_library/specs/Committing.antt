@@ -1,7 +1,7 @@
 -- What the writing of changed blocks leaves of a device.
 use Rattle.std.specs.Prelude.{◌≡◌, true, ℕ, zero, suc, ◌+◌, ◌*◌, ◌≤◌, Bool, not, ◌||◌, nat_lt, if◌then◌else◌, List, ◌++◌, length, take, drop, bytes_eq, Option, IfSome}
 use Rattle.adf_model.specs.Torn.{TornAt}
-use Rattle.cg_io.specs.Cause.{Rose}
+pub use Rattle.adf_model.specs.Counts.{NoCountFell, WriteFails}
 use Rattle.cg_io.specs.Device.{DeviceState, bytes_at}
 
 -- the first blocks of the new bytes, and the others of the old ones
@@ -16,18 +16,6 @@ has_changed old new number = nat_lt (length old) (number * 4096 + 4096) || not (
 abbrev pub changed_blocks : ℕ → List ℕ → List ℕ → ℕ
 changed_blocks zero old new = 0
 changed_blocks (suc number) old new = changed_blocks number old new + (if has_changed old new number then 1 else 0)
-
--- no count is lower
-pub record NoCountFell (before now : DeviceState) : Type 0 where
-  pub faults : before.faults ≤ now.faults
-  pub lost : before.lost ≤ now.lost
-  pub writes : before.writes ≤ now.writes
-
--- a write failed
-pub record FailedWrite (before now : DeviceState) : Type 0 where
-  pub faults : Rose before.faults now.faults
-  pub lost : Rose before.lost now.lost
-  pub writes : Rose before.writes now.writes
 
 -- where the bytes are told, one block is torn, which was to change
 abbrev pub LeavesTorn : List ℕ → List ℕ → Option (List ℕ) → Type 0

@@ -5,14 +5,8 @@ use Rattle.adf_format.specs.LaysOut.{LaysOut}
 use Rattle.adf_format.specs.Tree.{fresh_tree}
 use Rattle.adf_model.specs.declared.error.AdfError.{AdfError}
 use Rattle.adf_model.specs.declared.error.AdfError.TheVariants as error
-use Rattle.cg_io.specs.Cause.{Rose, raised}
+use Rattle.adf_model.specs.Counts.{Rose, raised, OnlyReads}
 use Rattle.cg_io.specs.Device.{DeviceState, with_block, Tears}
-
--- a device that was read and not written
-pub record OnlyRead (old new : DeviceState) : Type 0 where
-  pub held : new.held ≡ old.held
-  pub lost : new.lost ≡ old.lost
-  pub writes : new.writes ≡ old.writes
 
 -- one write of the first block of a device that, where it tells its bytes, held none
 pub record WritesFirst (old new : DeviceState) : Type 0 where
@@ -26,8 +20,8 @@ HoldsFresh image = LaysOut image (fresh_tree false) (fresh_placement false)
 -- what the making of a fresh file answers, and what it writes to the device
 abbrev pub WritesFresh : Result Unit AdfError → DeviceState → DeviceState → Type 0
 WritesFresh (Ok done) old new = WritesFirst old new × (new.held ≡ with_block old.held 0 (fresh_block false))
-WritesFresh (Err error.NotEmpty) old new = IfSome old.held (λ bytes. bytes ≢ []) × OnlyRead old new
-WritesFresh (Err error.ReadFault) old new = Rose old.faults new.faults × OnlyRead old new
+WritesFresh (Err error.NotEmpty) old new = IfSome old.held (λ bytes. bytes ≢ []) × OnlyReads old new
+WritesFresh (Err error.ReadFault) old new = Rose old.faults new.faults × OnlyReads old new
 WritesFresh (Err error.WriteFault) old new = WritesFirst old new × Rose old.faults new.faults × Rose old.lost new.lost × Tears old.held 0 new.held
 WritesFresh (Err _) old new = ⊥
 

@@ -5,7 +5,7 @@ use Rattle.adf_format.specs.Tree.{numbered}
 use Rattle.adf_model.specs.declared.error.AdfError.{AdfError}
 use Rattle.adf_model.specs.declared.error.AdfError.TheVariants.{WriteFault}
 use Rattle.adf_model.specs.declared.tree.NodeId.{NodeId}
-use Rattle.adf_model.specs.Slots.{File, Files, Device, Devices, Open, no_device, entry_files}
+use Rattle.adf_model.specs.Slots.{File, Files, Device, Devices, Open, no_device}
 use Rattle.adf_model.specs.Slots as model
 use Rattle.cg_io.specs.Device.{DeviceState}
 use Rattle.plain_library.specs.declared.open_file.Work.{Work}
@@ -14,7 +14,10 @@ use Rattle.plain_library.specs.declared.open_file.Core.{Core}
 use Rattle.plain_library.specs.declared.shelf.Slot.{Slot}
 use Rattle.plain_library.specs.declared.library.Library.{Library}
 use Rattle.plain_library.specs.Core.{tree_of, core_tree, core_placement, IsCore}
-use Rattle.plain_library.specs.Shelf.{SlotState, slot_of}
+use Rattle.plain_library.specs.declared.shelf.Place as code
+use Rattle.plain_library.specs.declared.shelf.Place.TheVariants as place
+use Rattle.plain_library.specs.Shelf.{PlaceState, SlotState, place_of, slot_of, device_in_place}
+use Rattle.plain_library.specs.Shelf.PlaceState.{There, Taken, Gone}
 
 -- ---- one file
 
@@ -30,25 +33,28 @@ placement_in (work.Saved rows) = no_device.placement
 placement_in (work.Open core) = core_placement core
 placement_in work.Broken = no_device.placement
 
-abbrev pub file_by : {D : Type 0} → List ℕ → Work → Option D → File
-file_by name kept None = record { name = []; slot = model.Slot.Gone }
-file_by name kept (Some device) = record { name = name; slot = slot_in kept }
+-- how the file of a number stands: a file whose device is not there is gone
+abbrev pub slot_by : {D : Type 0} → code.Place D → Work → model.Slot
+slot_by (place.There device) kept = slot_in kept
+slot_by place.Taken kept = model.Slot.Gone
+slot_by (place.Gone husk) kept = model.Slot.Gone
 
 -- the file of a slot
 abbrev pub file_in : {D : Type 0} → Slot D → File
-file_in slot = file_by slot.name slot.work slot.device
+file_in slot = record { name = slot.name; slot = slot_by slot.place slot.work }
 
 -- a device, with the placement of an open tree
 abbrev pub placed_device : Placement → DeviceState → Device
-placed_device placement state = record { held = state.held; placement = placement; faults = state.faults; lost = state.lost; writes = state.writes }
+placed_device placement state = record { held = state.held; placement = placement; faults = state.faults; lost = state.lost; reads = state.reads; writes = state.writes }
 
-abbrev pub device_by : Placement → Option DeviceState → Device
-device_by placement None = no_device
-device_by placement (Some state) = placed_device placement state
+abbrev pub device_by : Placement → PlaceState → Device
+device_by placement (There state) = placed_device placement state
+device_by placement Taken = no_device
+device_by placement (Gone last) = placed_device no_device.placement last
 
 -- and its device
 abbrev pub device_in : {D : Type 0} → (D → DeviceState) → Slot D → Device
-device_in state slot = device_by (placement_in slot.work) (option_map state slot.device)
+device_in state slot = device_by (placement_in slot.work) (place_of state slot.place)
 
 -- an open file is kept as its device holds it
 abbrev pub IsReadyWork : DeviceState → Work → Type 0
@@ -57,8 +63,14 @@ IsReadyWork state (work.Saved rows) = Unit {0}
 IsReadyWork state (work.Open core) = IsCore core × IfSome state.held (λ bytes. bytes ≡ core.image.items)
 IsReadyWork state work.Broken = Unit {0}
 
+-- no device is taken, and an open file is kept as its device holds it
+abbrev pub IsReadyPlace : {D : Type 0} → (D → DeviceState) → code.Place D → Work → Type 0
+IsReadyPlace state (place.There device) kept = IsReadyWork (state device) kept
+IsReadyPlace state place.Taken kept = ⊥
+IsReadyPlace state (place.Gone husk) kept = Unit {0}
+
 abbrev pub IsReadySlot : {D : Type 0} → (D → DeviceState) → Slot D → Type 0
-IsReadySlot state slot = IfSome slot.device (λ device. IsReadyWork (state device) slot.work)
+IsReadySlot state slot = IsReadyPlace state slot.place slot.work
 
 -- how a file stands once the fresh bytes were written to its device, or were not
 abbrev pub opened_work : Result Unit AdfError → Core → Work → Work
@@ -88,15 +100,26 @@ IsIdle slot = slot.work ≡ work.Idle
 
 -- ---- the shelf before and after
 
--- the names under which devices stand
-abbrev pub standing_name : SlotState → Option (List ℕ)
-standing_name slot = option_map (λ device. slot.name) slot.device
+-- a device stands there, or none does
+abbrev pub entry_slot : PlaceState → model.Slot
+entry_slot (There device) = model.Slot.Raw
+entry_slot Taken = model.Slot.Gone
+entry_slot (Gone last) = model.Slot.Gone
+
+-- the files of a shelf before the first call: closed, with any bytes; those of discarded devices are gone
+abbrev pub shelf_file : SlotState → File
+shelf_file slot = record { name = slot.name; slot = entry_slot slot.place }
 
 abbrev pub shelf_files : List SlotState → Files
-shelf_files slots = entry_files (map standing_name slots)
+shelf_files slots = map shelf_file slots
 
+-- the names under which devices stand
+abbrev pub standing_name : SlotState → Option (List ℕ)
+standing_name slot = option_map (λ device. slot.name) (device_in_place slot.place)
+
+-- the devices of a shelf: of a discarded one its last counts
 abbrev pub shelf_device : SlotState → Device
-shelf_device slot = device_by no_device.placement slot.device
+shelf_device slot = device_by no_device.placement slot.place
 
 abbrev pub shelf_devices : List SlotState → Devices
 shelf_devices slots = map shelf_device slots

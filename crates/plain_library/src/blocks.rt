@@ -3,7 +3,7 @@
 ghost use Rattle.std.specs.Prelude.{◌≡◌, ◌≤◌, ◌^◌, ◌+◌, ◌*◌, ◌/◌, false, if◌then◌else◌, length, ℕ, List, Option, Some, IsSome, IfSome, IfErr, OnOk, OnErr, option_map};
 ghost use Rattle.cg_io.specs.Device.{bytes_at};
 ghost use Rattle.plain_library.specs.Core.{IsWholeBlocks};
-ghost use Rattle.plain_library.specs.Committing.{mixed, has_changed, changed_blocks, NoCountFell, FailedWrite, LeavesTorn};
+ghost use Rattle.plain_library.specs.Committing.{mixed, has_changed, changed_blocks, NoCountFell, WriteFails, LeavesTorn};
 
 use adf_model::AdfError;
 use cg_io::Device;
@@ -44,7 +44,7 @@ fn write_changed<D: Device>(
         → (D.state device.new).held ≡ option_map (λ bytes. mixed (number + 1) old.now new.now) first) }
     ensures torn { OnErr result ((first : Option (List ℕ)) → (D.state device.old).held ≡ option_map (λ bytes. mixed number old.now new.now) first
         → LeavesTorn old.now new.now (D.state device.new).held) }
-    ensures failed { OnErr result (FailedWrite (D.state device.old) (D.state device.new)) }
+    ensures failed { OnErr result (WriteFails (D.state device.old) (D.state device.new)) }
     ensures counts { NoCountFell (D.state device.old) (D.state device.new) }
     ensures sparing { (D.state device.new).writes ≤ (D.state device.old).writes + (if has_changed old.now new.now number then 1 else 0) }
     ensures told { IsSome (D.state device.old).held → IsSome (D.state device.new).held }
@@ -69,7 +69,7 @@ pub fn write_changes<D: Device>(device: &mut D, old: &[u8], new: &[u8]) -> Resul
     ensures written { OnOk result ((D.state device.new).held ≡ option_map (λ bytes. new.now) (D.state device.old).held) }
     ensures told { IsSome (D.state device.old).held → IsSome (D.state device.new).held }
     ensures torn { OnErr result (LeavesTorn old.now new.now (D.state device.new).held) }
-    ensures failed { OnErr result (FailedWrite (D.state device.old) (D.state device.new)) }
+    ensures failed { OnErr result (WriteFails (D.state device.old) (D.state device.new)) }
     ensures counts { NoCountFell (D.state device.old) (D.state device.new) }
     ensures sparing { (D.state device.new).writes ≤ (D.state device.old).writes + changed_blocks (length new.now / 4096) old.now new.now }
     ensures fault { IfErr result (λ e. e ≡ AdfError.WriteFault) }

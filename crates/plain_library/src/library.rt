@@ -2,16 +2,15 @@
 
 ghost use Rattle.std.specs.Prelude.{◌≡◌, ◌≤◌, ◌∷◌, [], length, map, IfOk, IfErr, IsOk, All};
 ghost use Rattle.adf_model.specs.Steps.{Changed};
-ghost use Rattle.call_script.specs.Replies.{HasRule};
 ghost use Rattle.session.specs.Calls.{IsBuiltGroup, PlainMakes};
 ghost use Rattle.plain_library.specs.Calls.{as_group, refusal_at};
-ghost use Rattle.plain_library.specs.Shelf.{slots_of, slot_of, IsShelf};
+ghost use Rattle.plain_library.specs.Shelf.{slots_of, slot_of, IsWhole, IsShelf};
 ghost use Rattle.plain_library.specs.Library.{files_of, devices_of, slots_in, shelf_files, shelf_devices, unplaced, IsReady, IsIdle};
 
 use crate::open_file::Work;
 use crate::shelf::{Shelf, Slot};
-use crate::slots::{ask_slot, close_slot, create_in_slot, open_slot};
-use adf_model::{AdfError, Edit, EditError, NodeId, Query, Reply, Serials};
+use crate::slots::{ask_slot, close_slot, create_in_slot, discard_slot, open_slot};
+use adf_model::{AdfError, Edit, EditError, Mode, NodeId, Query, Reply, Serials};
 use cg_io::Device;
 use session::FileCalls;
 use std::alloc::Global;
@@ -34,9 +33,10 @@ fn close_all<D: Device>(slots: &mut Vec<Slot<D>>)
 }
 
 impl<D: Device> Library<D> {
-    /// A library of the files of a shelf, all of them closed.
+    /// A library of the files of a shelf, of which no device is taken; all files are closed.
     pub fn new(alloc: Global, shelf: Shelf<D>) -> Result<Library<D>, (AdfError, Shelf<D>)>
-        requires { IsShelf shelf }
+        requires whole { IsWhole shelf }
+        requires shelf { IsShelf shelf }
         ensures made { IsOk result }
         ensures ready { IfOk result (IsReady D.state) }
         ensures files { IfOk result (λ library. files_of library ≡ shelf_files (slots_of D.state shelf)) }
@@ -51,6 +51,7 @@ impl<D: Device> Library<D> {
     /// Closes all files, and hands the shelf back. It takes no memory.
     pub fn finish(self) -> Shelf<D>
         requires { IsReady D.state self }
+        ensures whole { IsWhole result }
         ensures shelf { IsShelf result }
         ensures slots { slots_of D.state result ≡ slots_in D.state self }
         ensures devices { shelf_devices (slots_of D.state result) ≡ map unplaced (devices_of D.state self) }
@@ -101,7 +102,6 @@ impl<D: Device> Library<D> {
         requires { IsReady D.state self.old }
         ensures ready { IsReady D.state self.new }
         ensures makes { PlainMakes (files_of self.old) (devices_of D.state self.old) (Changed (Edit.Create parent.now name.now label.now ∷ []) result) (devices_of D.state self.new) (files_of self.new) }
-        ensures rule { IfErr result (λ refusal. HasRule refusal.error) }
     {
         if parent.file as usize >= self.slots.len() {
             return Err(refusal_of(AdfError::NoSuchFile));
@@ -118,7 +118,8 @@ impl<D: Device> FileCalls for Library<D> {
 
     ghost is_ready = { IsReady D.state };
 
-    fn open_new(&mut self, number: u32, limit: u64) -> Result<(), AdfError> {
+    fn open(&mut self, number: u32, mode: Mode, limit: u64) -> Result<(), AdfError> {
+        let Mode::New = mode else { unreachable!() };
         if number as usize >= self.slots.len() {
             return Err(AdfError::NoSuchFile);
         }
@@ -130,6 +131,13 @@ impl<D: Device> FileCalls for Library<D> {
             return Err(AdfError::NoSuchFile);
         }
         close_slot(&mut self.slots[number as usize])
+    }
+
+    fn discard(&mut self, number: u32) -> Result<(), AdfError> {
+        if number as usize >= self.slots.len() {
+            return Err(AdfError::NoSuchFile);
+        }
+        discard_slot(&mut self.slots[number as usize])
     }
 
     fn ask(&mut self, query: &Query) -> Result<Reply, AdfError> {

@@ -1,36 +1,101 @@
 //! Devices under names and numbers.
 
-ghost use Rattle.std.specs.Prelude.{◌≡◌, ◌<◌, ◌≤◌, ◌-◌, ◌^◌, ◌++◌, ◌↔◌, ◌⊎◌, [], ◌∷◌, length, Some, None, ℕ, IsSome, IsNone, IfSome, IfOk, OnOk, IfErr, IsErrAnd};
+ghost use Rattle.std.specs.Prelude.{◌≡◌, ◌<◌, ◌≤◌, ◌-◌, ◌^◌, ◌++◌, ◌↔◌, ◌⊎◌, [], ◌∷◌, length, Some, None, ℕ, IsSome, IsNone, IfSome, IfOk, OnOk, IfErr, IsErrAnd, is_some};
 ghost use Rattle.std.specs.Option.{option_map};
-ghost use Rattle.std.specs.Str.{bytes_eq};
 ghost use Rattle.std.specs.List.{position_from};
-ghost use Rattle.plain_library.specs.Shelf.{slots_of, number_in, device_at, IsTaken, IsWhole, IsShelf, with_device};
+ghost use Rattle.adf_model.specs.Counts.{dropped};
+ghost use Rattle.plain_library.specs.Shelf.{There, Gone, place_of, slot_of, slots_of, has_name, number_in, device_in_place, device_at, IsTaken, IsWhole, IsWholeBut, IsShelf, changed_at, taken, discarded, with_device};
 
 use crate::open_file::Work;
 use adf_model::{AdfError, Text};
 use cg_io::Device;
+use http_server::Log;
 use std::alloc::Global;
+use std::mem::replace;
 
-/// A name, its device, unless it is taken, and how a library left its file.
+/// What is left of a device that was dropped: its last counts are still meant. It has no bytes.
+#[derive(Drop)]
+pub struct Husk<D> {
+    pub last: Log<D, u8>,
+}
+
+/// What stands under a number.
+#[derive(Drop)]
+pub enum Place<D: Device> {
+    /// A device.
+    There(D),
+    /// None, while it is taken.
+    Taken,
+    /// None any more: it was discarded.
+    Gone(Husk<D>),
+}
+
+/// A name, what stands under it, and how a library left its file.
 #[derive(Drop)]
 pub struct Slot<D: Device> {
     pub name: Text,
-    pub device: Option<D>,
+    pub place: Place<D>,
     pub work: Work,
+}
+
+/// What is left of a device once it is dropped.
+pub fn husk_of<D: Device>(device: &D) -> Husk<D>
+    ensures { place_of D.state (Place.Gone result) ≡ Gone (dropped (D.state device.now)) }
+{
+    Husk {
+        last: Log::new().and(device, &0),
+    }
+}
+
+// Whether a slot has the name: that of a discarded device is free.
+fn is_of_name<D: Device>(slot: &Slot<D>, name: &[u8]) -> bool
+    ensures { result ≡ has_name name.now (slot_of D.state slot.now) }
+{
+    match &slot.place {
+        Place::Gone(_) => false,
+        _ => slot.name.items() == name,
+    }
 }
 
 // The number of the first slot of this name.
 fn place_in<D: Device>(slots: &[Slot<D>], name: &[u8]) -> Option<u32>
     requires { length slots.now < 2 ^ 32 }
-    ensures number { result ≡ position_from (λ slot. bytes_eq slot.name name.now) 0 slots.now }
+    ensures number { result ≡ position_from (λ slot. has_name name.now (slot_of D.state slot)) 0 slots.now }
     ensures stands { IfSome result (λ n. n < length slots.now) }
 {
     for (i, slot) in slots.iter().enumerate() {
-        if slot.name.items() == name {
+        if is_of_name(slot, name) {
             return Some(i as u32);
         }
     }
     None
+}
+
+// Takes the device, where one stands there.
+fn take_device<D: Device>(place: &mut Place<D>) -> Option<D>
+    ensures device { option_map D.state result ≡ device_in_place (place_of D.state place.old) }
+    ensures rest { place_of D.state place.new ≡ taken (place_of D.state place.old) }
+{
+    match replace(place, Place::Taken) {
+        Place::There(device) => Some(device),
+        none => {
+            *place = none;
+            None
+        }
+    }
+}
+
+// Drops the device, where one stands there.
+fn drop_device<D: Device>(place: &mut Place<D>) -> bool
+    ensures said { result ≡ is_some (device_in_place (place_of D.state place.old)) }
+    ensures rest { place_of D.state place.new ≡ discarded (place_of D.state place.old) }
+{
+    let Place::There(device) = place else {
+        return false;
+    };
+    let husk = husk_of(device);
+    *place = Place::Gone(husk);
+    true
 }
 
 /// Devices under names and numbers. A number is handed out once and never changes.
@@ -63,7 +128,7 @@ impl<D: Device> Shelf<D> {
     pub fn add(&mut self, name: Text, device: D) -> Result<u32, (AdfError, D)>
         requires { length (slots_of D.state self.old) < 2 ^ 32 - 1 }
         ensures number { IfOk result (λ n. n ≡ length (slots_of D.state self.old)) }
-        ensures added { OnOk result (slots_of D.state self.new ≡ slots_of D.state self.old ++ record { name = name; device = Some (D.state device) } ∷ []) }
+        ensures added { OnOk result (slots_of D.state self.new ≡ slots_of D.state self.old ++ record { name = name; place = There (D.state device) } ∷ []) }
         ensures fresh { OnOk result (IsNone (number_in (slots_of D.state self.old) name)) }
         ensures there { IsSome (number_in (slots_of D.state self.old) name) → IsErrAnd result (λ e. e.0 ≡ AdfError.AlreadyOpen) }
         ensures why { IfErr result (λ e. ((e.0 ≡ AdfError.AlreadyOpen) × IsSome (number_in (slots_of D.state self.old) name)) ⊎ (e.0 ≡ AdfError.Memory)) }
@@ -77,7 +142,7 @@ impl<D: Device> Shelf<D> {
         let number = self.slots.len() as u32;
         let slot = Slot {
             name,
-            device: Some(device),
+            place: Place::There(device),
             work: Work::Idle,
         };
         match self.slots.push(slot) {
@@ -86,12 +151,12 @@ impl<D: Device> Shelf<D> {
                 let slot = failed.value;
                 let Slot {
                     name: _,
-                    device,
+                    place,
                     work: _,
                 } = slot;
-                match device {
-                    Some(device) => Err((AdfError::Memory, device)),
-                    None => unreachable!(),
+                match place {
+                    Place::There(device) => Err((AdfError::Memory, device)),
+                    _ => unreachable!(),
                 }
             }
         }
@@ -101,26 +166,43 @@ impl<D: Device> Shelf<D> {
     pub fn take(&mut self, number: u32) -> Option<D>
         requires { IsShelf self.old }
         ensures device { option_map D.state result ≡ device_at (slots_of D.state self.old) number }
-        ensures rest { slots_of D.state self.new ≡ with_device (slots_of D.state self.old) number None }
-        ensures there { IsWhole self.old → number < length (slots_of D.state self.old) → IsSome result }
+        ensures rest { slots_of D.state self.new ≡ changed_at taken (slots_of D.state self.old) number }
         ensures taken { IsSome result → IsTaken (slots_of D.state self.new) number }
+        ensures others { IsWhole self.old → IsWholeBut number self.new }
         ensures shelf { IsShelf self.new }
     {
         let at = number as usize;
         if at >= self.slots.len() {
             return None;
         }
-        self.slots[at].device.take()
+        take_device(&mut self.slots[at].place)
     }
 
     /// Puts a device back under a number whose device was taken. It takes no memory.
     pub fn put_back(&mut self, number: u32, device: D)
         requires taken { IsTaken (slots_of D.state self.old) number }
         requires shelf { IsShelf self.old }
-        ensures back { slots_of D.state self.new ≡ with_device (slots_of D.state self.old) number (Some (D.state device)) }
+        ensures back { slots_of D.state self.new ≡ with_device (slots_of D.state self.old) number (D.state device) }
+        ensures whole { IsWholeBut number self.old → IsWhole self.new }
         ensures shelf { IsShelf self.new }
     {
-        self.slots[number as usize].device = Some(device);
+        self.slots[number as usize].place = Place::There(device);
+    }
+
+    /// Drops the device under a number, and frees its name; the number is never used again. It is
+    /// false exactly where no device stands there. It takes no memory.
+    pub fn discard(&mut self, number: u32) -> bool
+        requires { IsShelf self.old }
+        ensures said { result ≡ is_some (device_at (slots_of D.state self.old) number) }
+        ensures rest { slots_of D.state self.new ≡ changed_at discarded (slots_of D.state self.old) number }
+        ensures whole { IsWhole self.old → IsWhole self.new }
+        ensures shelf { IsShelf self.new }
+    {
+        let at = number as usize;
+        if at >= self.slots.len() {
+            return false;
+        }
+        drop_device(&mut self.slots[at].place)
     }
 
     /// The number of a name: none exactly where it is not there. It takes no memory.
@@ -128,6 +210,7 @@ impl<D: Device> Shelf<D> {
         requires { IsShelf self.now }
         ensures number { result ≡ number_in (slots_of D.state self.now) name.now }
         ensures stands { IfSome result (λ n. n < length (slots_of D.state self.now)) }
+        ensures there { IsWhole self.now → IfSome result (λ n. IsSome (device_at (slots_of D.state self.now) n)) }
     {
         place_in(&self.slots, name)
     }

@@ -1,22 +1,30 @@
 // The calls on one file.
 
-ghost use Rattle.std.specs.Prelude.{◌≡◌, ◌≤◌, ◌<◌, ◌^◌, ◌∷◌, [], length, map, IsSome, IfSome, IfOk, IfErr, OnErr, All};
+ghost use Rattle.std.specs.Prelude.{◌≡◌, ◌≤◌, ◌<◌, ◌^◌, ◌∷◌, [], length, map, IsSome, IfSome, IfOk, IfErr, OnErr, All, is_some};
 ghost use Rattle.adf_model.specs.Answers.{child_entry};
 ghost use Rattle.adf_model.specs.Slots.{is_gone, is_open};
 ghost use Rattle.adf_model.specs.Steps.{NoneFell, IsLaidOutAt};
 ghost use Rattle.plain_library.specs.Committing.{NoCountFell};
 ghost use Rattle.plain_library.specs.Core.{tree_of, core_placement, IsCore};
 ghost use Rattle.plain_library.specs.Library.{file_in, device_in, slot_in, placement_in, placed_device, opened_work, created_work, IsReadyWork, IsReadySlot};
-ghost use Rattle.plain_library.specs.Calls.{IsOpenedAt, IsClosedAt, IsAskedAt, IsCreatedAt};
+ghost use Rattle.plain_library.specs.Shelf.{place_of, device_in_place};
+ghost use Rattle.plain_library.specs.Calls.{IsOpenedAt, IsClosedAt, IsDiscardedAt, IsDroppedAt, IsAskedAt, IsCreatedAt};
 
 use crate::blocks::write_changes;
 use crate::fresh::make_fresh;
 use crate::open_file::{Core, Row, Work};
-use crate::shelf::Slot;
+use crate::shelf::{Place, Slot, husk_of};
 use adf_model::{AdfError, Child, Children, NodeId, Reply, Serials, Text};
 use cg_io::Device;
 use std::alloc::Global;
 use std::mem::replace;
+
+// Whether a device stands there.
+fn is_there<D: Device>(place: &Place<D>) -> bool
+    ensures { result ≡ is_some (device_in_place (place_of D.state place.now)) }
+{
+    matches!(place, Place::There(_))
+}
 
 /// Opens a file that holds nothing as a fresh one.
 pub fn open_slot<D: Device>(alloc: Global, slot: &mut Slot<D>, limit: u64) -> Result<(), AdfError>
@@ -31,7 +39,7 @@ pub fn open_slot<D: Device>(alloc: Global, slot: &mut Slot<D>, limit: u64) -> Re
     ensures counts { NoneFell (device_in D.state slot.old) (device_in D.state slot.new) }
     ensures laid_out { IsLaidOutAt (file_in slot.old).slot (device_in D.state slot.old) → IsLaidOutAt (file_in slot.new).slot (device_in D.state slot.new) }
 {
-    let Some(device) = &mut slot.device else {
+    let Place::There(device) = &mut slot.place else {
         return Err(AdfError::NoSuchFile);
     };
     if is_in_use(&slot.work) {
@@ -68,14 +76,14 @@ pub fn close_slot<D: Device>(slot: &mut Slot<D>) -> Result<(), AdfError>
     ensures ready { IsReadySlot D.state slot.new }
     ensures name { (file_in slot.new).name ≡ (file_in slot.old).name }
     ensures closed { IsClosedAt (file_in slot.old).slot result (file_in slot.new).slot }
-    ensures device { slot.new.device ≡ slot.old.device }
+    ensures device { slot.new.place ≡ slot.old.place }
     ensures placed { OnErr result ((device_in D.state slot.new).placement ≡ (device_in D.state slot.old).placement) }
     ensures gone { is_gone (file_in slot.new).slot ≡ is_gone (file_in slot.old).slot }
     ensures told { IsSome (device_in D.state slot.old).held → IsSome (device_in D.state slot.new).held }
     ensures counts { NoneFell (device_in D.state slot.old) (device_in D.state slot.new) }
     ensures laid_out { IsLaidOutAt (file_in slot.old).slot (device_in D.state slot.old) → IsLaidOutAt (file_in slot.new).slot (device_in D.state slot.new) }
 {
-    if slot.device.is_none() {
+    if !is_there(&slot.place) {
         return Err(AdfError::NoSuchFile);
     }
     match replace(&mut slot.work, Work::Idle) {
@@ -95,6 +103,26 @@ pub fn close_slot<D: Device>(slot: &mut Slot<D>) -> Result<(), AdfError>
             Err(AdfError::NotOpen)
         }
     }
+}
+
+/// Drops the device of a closed file.
+pub fn discard_slot<D: Device>(slot: &mut Slot<D>) -> Result<(), AdfError>
+    requires { IsReadySlot D.state slot.old }
+    ensures ready { IsReadySlot D.state slot.new }
+    ensures name { (file_in slot.new).name ≡ (file_in slot.old).name }
+    ensures discarded { IsDiscardedAt (file_in slot.old).slot result (file_in slot.new).slot }
+    ensures device { IsDroppedAt (device_in D.state slot.old) result (device_in D.state slot.new) }
+{
+    let Place::There(device) = &slot.place else {
+        return Err(AdfError::NoSuchFile);
+    };
+    if is_in_use(&slot.work) {
+        return Err(AdfError::AlreadyOpen);
+    }
+    let husk = husk_of(device);
+    slot.work = Work::Idle;
+    slot.place = Place::Gone(husk);
+    Ok(())
 }
 
 // The children of a node, with their names.
@@ -128,7 +156,7 @@ pub fn ask_slot<D: Device>(alloc: Global, slot: &Slot<D>, node: &NodeId) -> Resu
     requires { IsReadySlot D.state slot.now }
     ensures { IsAskedAt (file_in slot.now).slot node.now result }
 {
-    if slot.device.is_none() {
+    if !is_there(&slot.place) {
         return Err(AdfError::NoSuchFile);
     }
     let core = match &slot.work {
@@ -241,7 +269,7 @@ pub fn create_in_slot<D: Device>(
     ensures counts { NoneFell (device_in D.state slot.old) (device_in D.state slot.new) }
     ensures laid_out { IsLaidOutAt (file_in slot.old).slot (device_in D.state slot.old) → IsLaidOutAt (file_in slot.new).slot (device_in D.state slot.new) }
 {
-    let Some(device) = &mut slot.device else {
+    let Place::There(device) = &mut slot.place else {
         return Err(AdfError::NoSuchFile);
     };
     let kept = replace(&mut slot.work, Work::Idle);

@@ -5,4 +5,4 @@ use Rattle.plain_library.proofs.ReadyLaws.{slot_there}
 use Rattle.plain_library.proofs.slots.create_in_slot.Goals as goal
 
 pub returns-clause-gone : goal.returns-clause-gone
-returns-clause-gone g c = never_gone _ ∙ sym (ap is_gone (slot_there c.args.slot.now c.in-Some.device c.in-Some.is) ∙ never_gone c.args.slot.now.work)
+returns-clause-gone g c = never_gone _ ∙ sym (ap is_gone (slot_there c.args.slot.now c.in-There.device c.in-There.is) ∙ never_gone c.args.slot.now.work)

@@ -1,8 +1,14 @@
-use Rattle.std.proofs.Common.{◌∙◌, ap, map, List}
+use Rattle.std.proofs.Common.{◌∙◌, ap, map, List, arith}
 use Rattle.plain_library.specs.Shelf.{SlotState}
 use Rattle.plain_library.specs.Library.{shelf_device, shelf_files}
-use Rattle.plain_library.proofs.ShelfLaws.{idle_files, idle_devices}
+use Rattle.plain_library.proofs.ShelfLaws.{idle_files, idle_devices, idle_ready, whole_kept, same_length}
 use Rattle.plain_library.proofs.library.Library.new.Goals as goal
+
+pub returns-clause-ready : goal.returns-clause-ready
+returns-clause-ready g c = (
+  idle_ready g.D.Device.state c.close_all.new.slots.items c.close_all.ensures.idle (whole_kept g.D.Device.state c.args.shelf.slots.items c.close_all.new.slots.items c.close_all.ensures.slots c.requires.whole),
+  (let same = same_length g.D.Device.state c.args.shelf.slots.items c.close_all.new.slots.items c.close_all.ensures.slots in let short = c.requires.shelf in omega (arith, same, short)),
+)
 
 pub returns-clause-files : goal.returns-clause-files
 returns-clause-files g c = idle_files g.D.Device.state c.close_all.new.slots.items c.close_all.ensures.idle ∙ ap shelf_files c.close_all.ensures.slots
