@@ -13,8 +13,8 @@ use adf_model::{AdfError, Text};
 use block_cache::BlockCache;
 use cg_io::MemoryDevice;
 use layout_lint::{
-    ExtentKind, Extents, Format, NodeNames, NodePlace, NodePlaces, OwnedExtents, Verdict, extents,
-    lint, path_of, survey,
+    ExtentKind, Extents, Format, NodeNames, NodePlace, NodePlaces, Owned, OwnedExtents, Surveyed,
+    Verdict, extents, lint, owned_extents, path_of, survey, survey_places,
 };
 use std::alloc::Global;
 use std::test::Fail;
@@ -266,12 +266,13 @@ fn ask(alloc: Global, blocks: &mut Cache, number: u64) -> Result<Said, AdfError>
     match lint(alloc, blocks)? {
         Verdict::Sound { nodes, gaps, .. } => {
             let found = survey(alloc, blocks, &nodes, &gaps)?;
+            let owned = owned_extents(alloc, blocks, &nodes, &gaps)?;
             let plain = extents(alloc, blocks, &nodes, &gaps)?;
             let path = path(alloc, &nodes, &found.names, number)?;
             Ok(Said {
                 nodes: nodes.items().len(),
                 names: found.names.items().len(),
-                owned: found.extents,
+                owned,
                 plain,
                 path,
             })
@@ -291,18 +292,22 @@ fn asked(alloc: Global, sample: Sample, number: u64) -> Result<Said, AdfError> {
     }
 }
 
+fn is_piece(part: &Owned, piece: &Piece) -> bool {
+    let extent = part.extent;
+    (extent.place, extent.length, extent.kind, part.owner) == *piece
+}
+
+fn are_owned(owned: &OwnedExtents, wanted: &[Piece]) -> bool {
+    let mut same = owned.items().len() == wanted.len();
+    for (part, piece) in owned.items().iter().zip(wanted) {
+        same = same && is_piece(part, piece);
+    }
+    same
+}
+
 fn are_pieces(said: &Said, wanted: &[Piece]) -> bool {
-    let mut same = said.owned.items().len() == wanted.len();
-    same = same && said.plain.items().len() == wanted.len();
-    for ((part, plain), piece) in said
-        .owned
-        .items()
-        .iter()
-        .zip(said.plain.items())
-        .zip(wanted)
-    {
-        let extent = part.extent;
-        same = same && (extent.place, extent.length, extent.kind, part.owner) == *piece;
+    let mut same = are_owned(&said.owned, wanted) && said.plain.items().len() == wanted.len();
+    for (plain, piece) in said.plain.items().iter().zip(wanted) {
         same = same && (plain.place, plain.length, plain.kind) == (piece.0, piece.1, piece.2);
     }
     same
@@ -332,6 +337,55 @@ fn extents_of_sound_files(rt: HostRuntime) -> Result<(), Fail> {
             wanted.len()
         );
     }
+    Ok(())
+}
+
+// The nodes of a file by other numbers than those of the tree: their places, and what their names begin
+// with.
+const OTHER_ORDER: [(u64, u8); 4] = [(954, b'B'), (300, b'C'), (1200, b'A'), (600, b'A')];
+
+const IN_OTHER_ORDER: [Piece; 10] = [
+    HEADER,
+    TABLE,
+    (266, 34, ExtentKind::Filler, None),
+    (300, 246, ExtentKind::Node, Some(1)),
+    (546, 54, ExtentKind::Filler, None),
+    (600, 246, ExtentKind::Node, Some(3)),
+    (846, 108, ExtentKind::SubNodes, Some(3)),
+    (954, 246, ExtentKind::Node, Some(0)),
+    (1200, 246, ExtentKind::Node, Some(2)),
+    (1446, 64, ExtentKind::SubNodes, Some(2)),
+];
+
+// What is found at these places of a sound file.
+fn found_at(alloc: Global, blocks: &mut Cache, places: &[u64]) -> Result<Surveyed, AdfError>
+    requires { IsCache device_of blocks.old }
+{
+    match lint(alloc, blocks)? {
+        Verdict::Sound { gaps, .. } => survey_places(alloc, blocks, places, gaps.items()),
+        Verdict::Unsound { rule, place } => Err(AdfError::Layout { rule, place }),
+    }
+}
+
+fn begin_with(names: &NodeNames, wanted: &[(u64, u8)]) -> bool {
+    let mut same = names.items().len() == wanted.len();
+    for (name, row) in names.items().iter().zip(wanted) {
+        same = same && name[0] == row.1;
+    }
+    same
+}
+
+#[test]
+fn extents_by_places_in_another_order(rt: HostRuntime) -> Result<(), Fail> {
+    let mut places = [0u64; 4];
+    for (place, row) in places.iter_mut().zip(&OTHER_ORDER) {
+        *place = row.0;
+    }
+    let image = image_of(rt.alloc(), Sample::MovedRoot)?;
+    let mut blocks = blocks_over(rt.alloc(), image, 0)?;
+    let found = found_at(rt.alloc(), &mut blocks, &places)?;
+    assert!(rt; are_owned(&found.extents, &IN_OTHER_ORDER));
+    assert!(rt; begin_with(&found.names, &OTHER_ORDER));
     Ok(())
 }
 
