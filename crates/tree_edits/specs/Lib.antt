@@ -1,0 +1,4 @@
+pub mod Rows
+pub mod Undo
+pub mod Edits
+pub mod Causes

@@ -1,0 +1,14 @@
+//! The edits of the tree of one file, each a function over a space and what is kept of the file in memory.
+//!
+//! Of each tree and placement that the bytes and the memory mean, a call that answers `Ok` makes those of the edit. After a
+//! refusal the caller abandons what was written to the space, and undoes the rest.
+
+#![tactic(auto)]
+
+mod label;
+mod memory;
+mod rows;
+
+pub use label::set_label;
+pub use memory::Core;
+pub use rows::{Row, Rows};
