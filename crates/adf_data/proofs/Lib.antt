@@ -1,0 +1,13 @@
+pub mod Listing
+pub mod Spots
+pub mod SpanLaws
+pub mod ListLaws
+pub mod PayloadLaws
+pub mod RunLaws
+pub mod WriteLaws
+pub mod DataLaws
+pub mod KeptLaws
+pub mod StayLaws
+pub mod GiveLaws
+pub mod ReleaseLaws
+pub mod HeapWords

@@ -1,0 +1,12 @@
+use Rattle.std.proofs.Common.{ℕ, sym, subst}
+use Rattle.std.specs.Prelude.{Option, IfErr}
+use Rattle.cg_io.specs.Answers.{IsRefusal}
+use Rattle.adf_format.specs.Placement.{chunk_table_extents}
+use Rattle.adf_data.specs.Sizes.{Ungivable}
+use Rattle.adf_data.proofs.ReleaseLaws.{table_cause}
+use Rattle.adf_data.proofs.gifts.give_table.Goals as goal
+
+pub returns-in-Some-clause-cause : goal.returns-in-Some-clause-cause
+returns-in-Some-clause-cause g c =
+    subst (λ (o : Option ℕ). IfErr c.give_range.result (IsRefusal (Ungivable (g.S.ReadBytes.image c.args.space.now) (chunk_table_extents o c.args.count) c.args.heap.now.now) (g.S.ReadBytes.state c.args.space.now).faults (g.S.ReadBytes.state c.give_range.new.space).faults)) (sym c.in-Some.is)
+    (table_cause c.give_range.result (g.S.ReadBytes.state c.args.space.now).faults (g.S.ReadBytes.state c.give_range.new.space).faults (g.S.ReadBytes.image c.args.space.now) c.in-Some.place c.args.count c.args.heap.now.now c.give_range.ensures.cause)

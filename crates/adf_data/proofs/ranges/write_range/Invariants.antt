@@ -1,0 +1,18 @@
+use Rattle.std.proofs.Common.{◌≤◌, ◌-◌, length}
+use Rattle.cg_io.specs.Blocks.{Both}
+use Rattle.cg_io.specs.Answers.{OnlyReads}
+use Rattle.adf_data.specs.Chunks.{parts_of}
+use Rattle.adf_data.specs.Ranges.{IsSpot, WritesBytes}
+use Rattle.adf_data.proofs.ranges.write_range.Given as goal
+
+abbrev pub invariant-loop-done : goal.invariant-loop-done
+invariant-loop-done g l = record {
+  inside : l.done ≤ length l.from;
+  sound : g.S.ReadBytes.is_sound l.space;
+  looks : OnlyReads (g.S.ReadBytes.state l.fn.space) (g.S.ReadBytes.state l.space);
+  spot : IsSpot (parts_of l.chunks) l.spot;
+  written : Both (WritesBytes (parts_of l.chunks) l.first l.from l.done) (g.S.ReadBytes.image l.fn.space) (g.S.ReadBytes.image l.space);
+}
+
+abbrev pub decreases-loop-done : goal.decreases-loop-done
+decreases-loop-done g l = length l.from - l.done

@@ -1,0 +1,4 @@
+pub mod Chunks
+pub mod Ranges
+pub mod Runs
+pub mod Sizes

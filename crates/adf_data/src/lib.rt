@@ -1,0 +1,18 @@
+//! The data of a node as one list of bytes, in one chunk or in several.
+//!
+//! The chunks are read once, into a list of places and lengths; all else is over that list and a space.
+
+#![tactic(auto)]
+
+mod chunks;
+mod gifts;
+mod place;
+mod ranges;
+mod room;
+mod runs;
+mod sizes;
+mod spaces;
+
+pub use place::DataPlace;
+pub use runs::{read_runs, write_runs};
+pub use sizes::release;
