@@ -1,5 +1,5 @@
 -- What the calls of the heap say, in the words of this crate.
-use Rattle.std.proofs.Common.{◌≡◌, ℕ, ◌≤◌, List, subst}
+use Rattle.std.proofs.Common.{◌≡◌, ℕ, ◌≤◌, List, subst, ap, arith}
 use Rattle.std.specs.Prelude.{Option, None, Some, Result, Ok, Err, IfOk, IfErr, IfSome, OnErr}
 use Rattle.cg_io.specs.Blocks.{Both}
 use Rattle.cg_io.specs.Device.{DeviceState}
@@ -11,6 +11,7 @@ use Rattle.adf_model.specs.declared.error.AdfError.TheVariants as error
 use Rattle.file_heap.specs.Heap as heap
 use Rattle.adf_format.specs.Placement.{Heap}
 use Rattle.adf_format.specs.HeapRule.{heap_take}
+use Rattle.adf_format.proofs.HeapSteps.{take_end}
 use Rattle.adf_data.specs.Sizes.{IsGrowRefusal}
 
 pub looks_only : (a b : DeviceState) → heap.Looks a b → OnlyReads a b
@@ -46,6 +47,13 @@ none_taken limit n old new other t = t.1
 pub takes_none : (limit n : ℕ) (old new : Heap) (r : Result ℕ AdfError) → heap.TakesBy limit n old r new → OnErr r (new ≡ old)
 takes_none limit n old new (Ok place) t = tt
 takes_none limit n old new (Err e) t = none_taken limit n old new e t
+
+none_falls : (limit n : ℕ) (old new : Heap) (e : AdfError) → heap.TakesBy limit n old (Err e) new → old.end ≤ new.end
+none_falls limit n old new e t = let s = ap (λ (h : Heap). h.end) (none_taken limit n old new e t) in omega (arith, s)
+
+pub takes_grow : (limit n : ℕ) (old new : Heap) (r : Result ℕ AdfError) → heap.TakesBy limit n old r new → old.end ≤ new.end
+takes_grow limit n old new (Ok place) t = take_end limit n old place new t
+takes_grow limit n old new (Err e) t = none_falls limit n old new e t
 
 grow_refusal : (P Q : Type 0) (a b : ℕ) (e : AdfError) → (P → Q) → heap.IsTakeRefusal P a b e → IsGrowRefusal Q a b e
 grow_refusal P Q a b (error.Full asked end) f h = tt
@@ -102,14 +110,18 @@ grown_later P Q a b c other le f h = h
 
 -- ---- relations of bytes beside one another
 
-pub both_and : (R S : List ℕ → List ℕ → Type 0) (a b : Option (List ℕ)) → Both R a b → Both S a b → Both (λ old new. R old new × S old new) a b
+pub record PairOf (P Q : Type 0) : Type 0 where
+  pub one : P
+  pub two : Q
+
+pub both_and : (R S : List ℕ → List ℕ → Type 0) (a b : Option (List ℕ)) → Both R a b → Both S a b → Both (λ old new. PairOf (R old new) (S old new)) a b
 both_and R S None None r s = tt
 both_and R S None (Some new) r s = r
 both_and R S (Some old) None r s = r
-both_and R S (Some old) (Some new) r s = (r, s)
+both_and R S (Some old) (Some new) r s = record { one = r; two = s }
 
-pub both_told : (R : List ℕ → List ℕ → Type 0) (P : List ℕ → Type 0) (a b : Option (List ℕ)) → Both R a b → IfSome b P → Both (λ old new. R old new × P new) a b
+pub both_told : (R : List ℕ → List ℕ → Type 0) (P : List ℕ → Type 0) (a b : Option (List ℕ)) → Both R a b → IfSome b P → Both (λ old new. PairOf (R old new) (P new)) a b
 both_told R P None None r p = tt
 both_told R P None (Some new) r p = r
 both_told R P (Some old) None r p = r
-both_told R P (Some old) (Some new) r p = (r, p)
+both_told R P (Some old) (Some new) r p = record { one = r; two = p }

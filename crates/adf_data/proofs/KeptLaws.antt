@@ -19,10 +19,10 @@ AreLong parts = AllByRecursion (λ (c : ChunkPart). 20 ≤ c.length) parts
 holds : (c : ChunkPart) (b : ℕ) → c.place ≤ b → b < c.place + c.length → holds_byte (extent ExtentKind.DataChunk c.place c.length) b ≡ true
 holds c b low high = grind (arith, nat_tests)
 
-is_in : (c : ChunkPart) (k : ℕ) → k < c.length - 20 → nat_lt k (c.length - 20) ≡ true
+pub is_in : (c : ChunkPart) (k : ℕ) → k < c.length - 20 → nat_lt k (c.length - 20) ≡ true
 is_in c k lt = grind (arith, nat_tests)
 
-is_behind : (c : ChunkPart) (k : ℕ) → c.length - 20 ≤ k → nat_lt k (c.length - 20) ≡ false
+pub is_behind : (c : ChunkPart) (k : ℕ) → c.length - 20 ≤ k → nat_lt k (c.length - 20) ≡ false
 is_behind c k le = grind (arith, nat_tests)
 
 pub covered : (parts : List ChunkPart) (k : ℕ) → k < payload_length parts → 1 ≤ cover (chunk_extents parts) (byte_place parts k)

@@ -8,6 +8,14 @@ pub mod WriteLaws
 pub mod DataLaws
 pub mod KeptLaws
 pub mod StayLaws
+pub mod FillLaws
 pub mod GiveLaws
 pub mod ReleaseLaws
+pub mod ChunkLaws
 pub mod HeapWords
+pub mod RoomLaws
+pub mod GrowLaws
+pub mod GatherLaws
+pub mod ZeroLaws
+pub mod ExtendLaws
+pub mod SizeLaws

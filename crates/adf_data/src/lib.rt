@@ -5,14 +5,17 @@
 #![tactic(auto)]
 
 mod chunks;
+mod fills;
 mod gifts;
+mod grow;
 mod place;
 mod ranges;
 mod room;
 mod runs;
 mod sizes;
 mod spaces;
+mod tables;
 
 pub use place::DataPlace;
 pub use runs::{read_runs, write_runs};
-pub use sizes::release;
+pub use sizes::{release, resize};

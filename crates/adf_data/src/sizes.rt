@@ -1,21 +1,30 @@
-//! The data of a node become none.
+//! The data of a node get another size, or become none.
 
-ghost use Rattle.std.specs.Prelude.{◌≡◌, ℕ, ◌++◌, ◌*◌, ◌+◌, ◌≤◌, IfErr, IfSome, OnOk, OnErr};
+ghost use Rattle.std.specs.Prelude.{◌≡◌, ℕ, List, Option, ◌++◌, ◌*◌, ◌+◌, ◌-◌, ◌^◌, ◌≤◌, ◌<◌, Err, IfErr, IfSome, OnOk, OnErr};
+ghost use Rattle.std.specs.List.{All};
 ghost use Rattle.cg_io.specs.Blocks.{Both};
 ghost use Rattle.cg_io.specs.Answers.{OnlyReads, IsRefusal};
 ghost use Rattle.adf_format.specs.Placement.{NodeParts};
 ghost use Rattle.adf_format.specs.Changes.{heap_fields};
-ghost use Rattle.adf_format.specs.HeapRule.{give_all, data_extents, pairs};
+ghost use Rattle.adf_format.specs.HeapRule.{LimitReached, give_all, data_extents, payload_length, chunk_length_for, pairs};
 ghost use Rattle.adf_format.specs.LaysOut.{ThreadsFreeChunks};
 ghost use Rattle.disk_ptr.specs.View.{HasOffset};
 ghost use Rattle.disk_ptr.specs.declared.DiskPtr.{DiskPtr};
 ghost use Rattle.file_heap.specs.Heap.{IsHeap, ChangesOnly, MovesEnd, KeepsFillers};
-ghost use Rattle.adf_data.specs.Chunks.{Named};
-ghost use Rattle.adf_data.specs.Sizes.{MayGiveAll};
+ghost use Rattle.adf_model.specs.declared.error.AdfError.{AdfError};
+ghost use Rattle.adf_model.specs.NodeData.{resized_spot};
+ghost use Rattle.adf_data.specs.Chunks.{parts_of, IsSane, Named};
+ghost use Rattle.adf_data.specs.Ranges.{ChangesBytes};
+ghost use Rattle.adf_data.specs.Fills.{ZeroesBytes};
+ghost use Rattle.adf_data.specs.Sizes.{MayGiveAll, IsGrowRefusal};
+ghost use Rattle.adf_data.specs.Growing.{ResizesData, Owns, sized_ranges, room_of_table};
 
-use crate::chunks::{list_chunks, table_in};
+use crate::chunks::{Chunk, list_chunks, table_in};
+use crate::fills::zero_range;
 use crate::gifts::give_data;
+use crate::grow::grow;
 use crate::place::DataPlace;
+use crate::runs::payload_total;
 use adf_model::AdfError;
 use cg_io::Space;
 use file_heap::Heap;
@@ -59,4 +68,78 @@ pub fn release<S: Space>(
     }
     *at = DataPlace::none();
     Ok(())
+}
+
+// Writes zeros from one byte of the data up to another, where that stands behind it.
+fn clear_between<S: Space>(
+    space: &mut S,
+    chunks: &[Chunk],
+    from: u64,
+    to: u64,
+) -> Result<(), AdfError>
+    requires sound { S.is_sound space.old }
+    requires sane { All IsSane chunks.now }
+    requires within { (from ≤ payload_length (parts_of chunks.now)) × (to ≤ payload_length (parts_of chunks.now)) }
+    requires small { (from ≤ 2 ^ 30) × (to ≤ 2 ^ 30) }
+    ensures sound { S.is_sound space.new }
+    ensures zeroed { OnOk result (Both (ZeroesBytes (parts_of chunks.now) from (to - from)) (S.image space.old) (S.image space.new)) }
+    ensures bytes { Both (ChangesBytes (parts_of chunks.now) from (to - from)) (S.image space.old) (S.image space.new) }
+    ensures effect { OnlyReads (S.state space.old) (S.state space.new) }
+    ensures cause { IfErr result (IsRefusal ⊥ (S.state space.old).faults (S.state space.new).faults) }
+{
+    zero_range(space, chunks, from, to.saturating_sub(from))
+}
+
+/// Gives the data a size: as many of the first bytes as both have stay, and the rest is zero. Where the chunks have room, these
+/// zeros are written. Else a chunk is added for what is added, with a table of all, which is placed anew; data in no chunk, or
+/// in 64 or more, are gathered in one.
+pub fn resize<S: Space>(
+    alloc: Global,
+    heap: &mut Heap,
+    space: &mut S,
+    at: &mut DataPlace,
+    old: u64,
+    new: u64,
+) -> Result<(), AdfError>
+    requires sound { S.is_sound space.old }
+    requires offset { HasOffset at.old.pointer }
+    requires was { old ≤ 2 ^ 30 }
+    requires size { (1 ≤ new) × (new ≤ 2 ^ 30) }
+    requires heap { IsHeap heap.old.now }
+    requires threads { IfSome (S.image space.old) (λ bytes. ThreadsFreeChunks bytes heap.old.now.gaps) }
+    ensures sound { S.is_sound space.new }
+    ensures resized { OnOk result (Both (ResizesData heap.old.limit old new at.old at.new heap.old.now heap.new.now) (S.image space.old) (S.image space.new)) }
+    ensures offset { HasOffset at.new.pointer }
+    ensures stays { OnErr result (at.new ≡ at.old) }
+    ensures kept { heap.new.kept ≡ heap.old.kept }
+    ensures limit { heap.new.limit ≡ heap.old.limit }
+    ensures heap { IsHeap heap.new.now }
+    ensures pairs { pairs heap.new.now.gaps ≤ pairs heap.old.now.gaps }
+    ensures bytes { (parts : NodeParts) → Named at.old parts (S.image space.old) → Both (ChangesOnly (sized_ranges parts heap.old.now heap.new.now)) (S.image space.old) (S.image space.new) }
+    ensures full { (asked end : ℕ) → result ≡ Err (AdfError.Full asked end) → heap.old.limit * 4096 < heap.old.now.end + 1 + chunk_length_for new + room_of_table at.old.count }
+    ensures exact { (asked end : ℕ) → result ≡ Err (AdfError.Full asked end) → (parts : NodeParts) (bytes : Option (List ℕ)) → Owns at.old old parts bytes heap.old.now (S.image space.old)
+        → resized_spot heap.old.limit new (parts, heap.old.now) ≡ Err (record { asked = asked; end = end }) }
+    ensures effect { OnlyReads (S.state space.old) (S.state space.new) }
+    ensures cause { IfErr result (IsGrowRefusal ((parts : NodeParts) (bytes : Option (List ℕ)) → Owns at.old old parts bytes heap.old.now (S.image space.old) → ⊥) (S.state space.old).faults (S.state space.new).faults) }
+{
+    let place = *at;
+    let chunks = match list_chunks(alloc, space, place) {
+        Ok(chunks) => chunks,
+        Err(error) => return Err(error),
+    };
+    let table = table_in(place);
+    let have = payload_total(&chunks);
+    if have < old {
+        return Err(AdfError::Layout { rule: 27, place: 0 });
+    }
+    if new <= have {
+        return clear_between(space, &chunks, old, new);
+    }
+    match grow(alloc, heap, space, table, &chunks, old, have, new) {
+        Ok(now) => {
+            *at = now;
+            Ok(())
+        }
+        Err(error) => Err(error),
+    }
 }

@@ -1,0 +1,181 @@
+-- A new chunk, written in four pieces.
+use Rattle.std.proofs.Common.{◌≡◌, ◌⊎◌, inl, inr, ℕ, ◌+◌, ◌-◌, ◌*◌, ◌/◌, ◌%◌, ◌<◌, ◌≤◌, ◌^◌, arith, List, ◌++◌, length, take, drop, replicate, get_or, sym, ◌∙◌, ap, subst}
+use Rattle.std.proofs.lemmas.Bool.{cases_lt}
+use Rattle.std.proofs.lemmas.Option.{slice_get-get_or}
+use Rattle.std.proofs.lemmas.Grind.{same_number_lists}
+use Rattle.std.proofs.lemmas.List.{get_or-take, get_or-drop, get_or_append_left, get_or-append_right, get_or-replicate, length-append, length-take, length-replicate}
+use Rattle.std.specs.Prelude.{Option, Some, slice_get, codes}
+use Rattle.cg_io.specs.Blocks.{Both, Wrote, KeepsOutside}
+use Rattle.adf_format.specs.Fields.{field}
+use Rattle.adf_format.specs.Pointer.{Pointer, To, pointer_text}
+use Rattle.adf_format.proofs.SpelledParts.{length-pointer_text}
+use Rattle.disk_ptr.specs.View.{view}
+use Rattle.disk_ptr.specs.declared.DiskPtr.{DiskPtr}
+use Rattle.disk_ptr.specs.declared.DiskPtr.TheVariants.{At}
+use Rattle.adf_format.specs.Parts.{SpellsChunk, payload}
+use Rattle.adf_format.specs.Placement.{ChunkPart}
+use Rattle.adf_format.specs.LaysOut.{payloads}
+use Rattle.adf_format.specs.HeapRule.{payload_length}
+use Rattle.adf_format.specs.Changes.{Writes}
+use Rattle.adf_format.specs.Records.{Data, head_text, end_tag}
+use Rattle.adf_format.specs.Spelled.{framed_text}
+use Rattle.adf_format.proofs.FieldLaws.{length-field}
+use Rattle.adf_format.proofs.FrameLaws.{field_kept}
+use Rattle.adf_format.proofs.WrittenParts.{chunk_written}
+use Rattle.file_heap.proofs.Images.{written}
+use Rattle.cg_io.specs.Answers.{Then}
+use Rattle.cg_io.proofs.BothLaws.{both_then, both_map}
+use Rattle.adf_data.specs.Ranges.{AreIn, byte_place}
+use Rattle.adf_data.specs.Fills.{Fills, Copies, IsBeside, MakesChunk}
+use Rattle.adf_data.proofs.PayloadLaws.{payloads_at, length-payloads}
+use Rattle.adf_data.proofs.RunLaws.{field_join}
+
+-- ---- ranges in a range
+
+pub part_of_range : (at n place m : ℕ) (old new : List ℕ) → place ≤ at → at + n ≤ place + m → KeepsOutside at n old new → KeepsOutside place m old new
+part_of_range at n place m old new low high k = record { longer = k.longer; outside = λ b out. k.outside b (far b out) }
+  where
+    far : (b : ℕ) → (b < place) ⊎ (place + m ≤ b) → (b < at) ⊎ (at + n ≤ b)
+    far b (inl h) = inl (omega (arith, h, low))
+    far b (inr h) = inr (omega (arith, h, high))
+
+pub kept_then : (place m : ℕ) (a b c : List ℕ) → KeepsOutside place m a b → KeepsOutside place m b c → KeepsOutside place m a c
+kept_then place m a b c v w = record { longer = (let p = v.longer in let q = w.longer in omega (arith, p, q)); outside = λ k out. w.outside k out ∙ v.outside k out }
+
+pub wrote_keeps : (place n : ℕ) (from a b : List ℕ) → length from ≡ n → Wrote place from a b → KeepsOutside place n a b
+wrote_keeps place n from a b e w = record { longer = w.longer; outside = λ k out. w.outside k (subst (λ m. (k < place) ⊎ (place + m ≤ k)) (sym e) out) }
+
+same_byte : (a b : List ℕ) (k : ℕ) → length a ≤ length b → k < length a → get_or b k 0 ≡ get_or a k 0 → slice_get b k ≡ slice_get a k
+same_byte a b k le lt e = slice_get-get_or b k 0 (omega (arith, le, lt)) ∙ ap (λ x. Some x) e ∙ sym (slice_get-get_or a k 0 lt)
+
+-- ---- the four pieces
+
+module _ (parts : List ChunkPart) (kept n place : ℕ) (head tag a b c d e : List ℕ)
+    (long : 21 ≤ n) (fits : 20 + kept ≤ n) (near : place + n ≤ 2 ^ 44) (short : kept ≤ payload_length parts)
+    (head_is : head ≡ head_text Data (To (place + n - 4))) (head_long : length head ≡ 16) (tag_is : tag ≡ end_tag Data) (tag_long : length tag ≡ 4)
+    (first : Wrote place head a b) (second : Copies parts kept kept (place + 16) b c) (third : Fills (place + 16 + kept) (n - 20 - kept) c d) (last : Wrote (place + n - 4) tag d e) where
+  pub changes_all : KeepsOutside place n a e
+  changes_all =
+      kept_then place n a d e
+      (kept_then place n a c d
+      (kept_then place n a b c (part_of_range place 16 place n a b (omega arith) (omega (arith, long)) (wrote_keeps place 16 head a b head_long first))
+      (part_of_range (place + 16) kept place n b c (omega arith) (omega (arith, fits)) second.changes))
+      (part_of_range (place + 16 + kept) (n - 20 - kept) place n c d (omega arith) (omega (arith, fits)) third.changes))
+      (part_of_range (place + n - 4) 4 place n d e (omega (arith, long)) (omega (arith, long)) (wrote_keeps (place + n - 4) 4 tag d e tag_long last))
+
+  lengths : (length b ≤ length c) × (length c ≤ length d) × (length d ≤ length e) × (place + 16 ≤ length b) × (place + n ≤ length e)
+  lengths = (second.changes.longer, third.changes.longer, last.longer, (let r = first.reaches (omega (arith, head_long)) in omega (arith, r, head_long)), (let r = last.reaches (omega (arith, tag_long)) in omega (arith, r, tag_long, long)))
+
+  in_head : (k : ℕ) → k < place + 16 → place ≤ k → get_or e k 0 ≡ get_or b k 0
+  in_head k lt low = last.outside k (inl (omega (arith, lt, long))) ∙ third.changes.outside k (inl (omega (arith, lt))) ∙ second.changes.outside k (inl lt)
+
+  head_stands : field e place 16 ≡ head
+  head_stands =
+      let l = lengths in
+      field_kept 16 place b e (λ k low high. same_byte b e k (let p = l.0 in let q = l.1 in let r = l.2 in omega (arith, p, q, r)) (let w = l.3 in omega (arith, w, high)) (in_head k high low))
+      ∙ subst (λ m. field b place m ≡ head) head_long ((written place head a b first).stands)
+
+  tag_stands : field e (place + n - 4) 4 ≡ tag
+  tag_stands = subst (λ m. field e (place + n - 4) m ≡ tag) tag_long ((written (place + n - 4) tag d e last).stands)
+
+  abbrev body : List ℕ
+  body = field e (place + 16) (n - 20)
+
+  body_long : length body ≡ n - 20
+  body_long = let l = length-field e (place + 16) (n - 20) in let w : place + n ≤ length e = lengths.4 in omega (arith, l, w, long)
+
+  whole : field e place n ≡ framed_text Data place body
+  whole =
+      let x : 16 + (n - 20) ≡ n - 4 = omega (arith, long) in
+      let y : n - 4 + 4 ≡ n = omega (arith, long) in
+      let z : place + (n - 4) ≡ place + n - 4 = omega (arith, long) in
+      let w : place + 16 + length body ≡ place + n - 4 = omega (arith, body_long, long) in
+      sym (ap (field e place) y) ∙ sym (field_join e place (n - 4) 4) ∙ ap (λ k. field e place (n - 4) ++ field e k 4) z ∙ ap (λ t. field e place (n - 4) ++ t) (tag_stands ∙ tag_is)
+      ∙ ap (λ t. t ++ end_tag Data) (sym (ap (field e place) x) ∙ sym (field_join e place 16 (n - 20)) ∙ ap (λ t. t ++ body) (head_stands ∙ head_is ∙ ap (λ k. head_text Data (To k)) (sym w)))
+
+  stands_whole : Writes place (framed_text Data place body) a e
+  stands_whole = record {
+    longer = changes_all.longer;
+    stands = ap (λ m. field e place m) size ∙ whole;
+    others = λ k lt out. same_byte a e k changes_all.longer lt (changes_all.outside k (subst (λ m. (k < place) ⊎ (place + m ≤ k)) size out));
+  }
+    where
+      size : length (framed_text Data place body) ≡ n
+      size = sym (ap length whole) ∙ (let l = length-field e place n in let w = lengths.4 in omega (arith, l, w))
+
+  pub chunk_spelled : SpellsChunk (field e place n) place n
+  chunk_spelled =
+      let y : 20 + length body ≡ n = omega (arith, body_long, long) in
+      subst (λ m. SpellsChunk (field e place m) place m) y (chunk_written place body a e (omega (arith, body_long, long)) (omega (arith, body_long, near, long)) stands_whole).0
+
+  pub body_is : IsBeside parts place n → AreIn parts a → payload e place n ≡ take kept (payloads a parts) ++ replicate (n - 20 - kept) 0
+  body_is beside all = same_number_lists body (take kept (payloads a parts) ++ replicate (n - 20 - kept) 0) (body_long ∙ sym size) (λ k lt. each k (omega (arith, lt, body_long)))
+    where
+      front : length (take kept (payloads a parts)) ≡ kept
+      front = let l = length-take kept (payloads a parts) in let m = length-payloads parts a all in omega (arith, l, m, short)
+
+      size : length (take kept (payloads a parts) ++ replicate (n - 20 - kept) 0) ≡ n - 20
+      size = let l = length-append (take kept (payloads a parts)) (replicate (n - 20 - kept) 0) in let r = length-replicate {A = ℕ} (n - 20 - kept) 0 in omega (arith, l, r, front, fits)
+
+      narrow : IsBeside parts (place + 16) kept
+      narrow j lt = elim (beside j lt) [ inl h ↦ inl (omega (arith, h)) | inr h ↦ inr (omega (arith, h, fits)) ]
+
+      far : (j : ℕ) → j < payload_length parts → (byte_place parts j < place) ⊎ (place + 16 ≤ byte_place parts j)
+      far j lt = elim (beside j lt) [ inl h ↦ inl h | inr h ↦ inr (omega (arith, h, long)) ]
+
+      each : (k : ℕ) → k < n - 20 → get_or body k 0 ≡ get_or (take kept (payloads a parts) ++ replicate (n - 20 - kept) 0) k 0
+      each k lt =
+          get_or-take (n - 20) (drop (place + 16) e) k 0 lt ∙ get_or-drop (place + 16) e k 0 ∙ last.outside (place + 16 + k) (inl (omega (arith, lt, long)))
+          ∙ elim (cases_lt k kept) [
+            | inl low ↦
+                third.changes.outside (place + 16 + k) (inl (omega (arith, low))) ∙ second.copied narrow k low
+                ∙ first.outside (byte_place parts k) (subst (λ m. (byte_place parts k < place) ⊎ (place + m ≤ byte_place parts k)) (sym head_long) (far k (omega (arith, low, short))))
+                ∙ sym (payloads_at parts a k all (omega (arith, low, short)))
+                ∙ sym (get_or_append_left (take kept (payloads a parts)) (replicate (n - 20 - kept) 0) 0 k (omega (arith, front, low)) ∙ get_or-take kept (payloads a parts) k 0 low)
+            | inr high ↦
+                third.zeros (place + 16 + k) (omega (arith, high)) (omega (arith, lt, fits))
+                ∙ sym (get_or-append_right (take kept (payloads a parts)) (replicate (n - 20 - kept) 0) kept k 0 front high ∙ get_or-replicate (n - 20 - kept) (k - kept) 0 0 (omega (arith, lt, high)))
+          ]
+
+  pub made : MakesChunk parts kept n place a e
+  made = record { changes = changes_all; spells = chunk_spelled; body = body_is }
+
+-- ---- where bytes are told
+
+pub in_chunk : (at n place m : ℕ) (a b : Option (List ℕ)) → place ≤ at → at + n ≤ place + m → Both (KeepsOutside at n) a b → Both (KeepsOutside place m) a b
+in_chunk at n place m a b low high = both_map (KeepsOutside at n) (KeepsOutside place m) a b (λ old new k. part_of_range at n place m old new low high k)
+
+pub keeps_then : (place m : ℕ) (a b c : Option (List ℕ)) → Both (KeepsOutside place m) a b → Both (KeepsOutside place m) b c → Both (KeepsOutside place m) a c
+keeps_then place m a b c v w =
+    both_map (Then (KeepsOutside place m) (KeepsOutside place m)) (KeepsOutside place m) a c (λ old new t. kept_then place m old t.0 new t.1 t.2) (both_then (KeepsOutside place m) (KeepsOutside place m) a b c v w)
+
+pub head_size : (p : Pointer) → length (head_text Data p) ≡ 16
+head_size p = let a : length (codes "DaTa" ++ pointer_text p) ≡ 4 + length (pointer_text p) = length-append (codes "DaTa") (pointer_text p) in let b = length-pointer_text p in omega (arith, a, b)
+
+pub view_from : (end : ℕ) (p : DiskPtr) → p ≡ At (end / 4096) (end % 4096) → view p ≡ To end
+view_from end p e = ap view e ∙ ap To (whole end)
+  where
+    whole : (end : ℕ) → end / 4096 * 4096 + end % 4096 ≡ end
+    whole end = omega arith
+
+pub all_made : (parts : List ChunkPart) (kept n place : ℕ) (head tag : List ℕ) (a b c d e : Option (List ℕ)) → 21 ≤ n → 20 + kept ≤ n → place + n ≤ 2 ^ 44 → kept ≤ payload_length parts → head ≡ head_text Data (To (place + n - 4)) → tag ≡ end_tag Data
+    → Both (Wrote place head) a b → Both (Copies parts kept kept (place + 16)) b c → Both (Fills (place + 16 + kept) (n - 20 - kept)) c d → Both (Wrote (place + n - 4) tag) d e → Both (MakesChunk parts kept n place) a e
+all_made parts kept n place head tag a b c d e long fits near short head_is tag_is first second third last =
+    both_map (Then (Then (Then (Wrote place head) (Copies parts kept kept (place + 16))) (Fills (place + 16 + kept) (n - 20 - kept))) (Wrote (place + n - 4) tag)) (MakesChunk parts kept n place)
+    a e
+    (λ old new t. made parts kept n place head tag old t.1.1.0 t.1.0 t.0 new long fits near short head_is (ap length head_is ∙ head_size (To (place + n - 4))) tag_is (ap length tag_is) t.1.1.1 t.1.1.2 t.1.2 t.2)
+    (both_then (Then (Then (Wrote place head) (Copies parts kept kept (place + 16))) (Fills (place + 16 + kept) (n - 20 - kept))) (Wrote (place + n - 4) tag) a d e
+    (both_then (Then (Wrote place head) (Copies parts kept kept (place + 16))) (Fills (place + 16 + kept) (n - 20 - kept)) a c d (both_then (Wrote place head) (Copies parts kept kept (place + 16)) a b c first second) third) last)
+
+-- what is written, piece by piece, lies in the chunk
+module _ (place n kept : ℕ) (head : List ℕ) (p : Pointer) (head_is : head ≡ head_text Data p) (fits : 20 + kept ≤ n) (a b c d : Option (List ℕ))
+    (first : Both (KeepsOutside place (length head)) a b) (second : Both (KeepsOutside (place + 16) kept) b c) (third : Both (KeepsOutside (place + 16 + kept) (n - 20 - kept)) c d) where
+  pub body_changes : Both (KeepsOutside place n) a d
+  body_changes =
+      let l : length head ≡ 16 = ap length head_is ∙ head_size p in
+      keeps_then place n a c d
+      (keeps_then place n a b c (in_chunk place (length head) place n a b (omega arith) (omega (arith, l, fits)) first) (in_chunk (place + 16) kept place n b c (omega arith) (omega (arith, fits)) second))
+      (in_chunk (place + 16 + kept) (n - 20 - kept) place n c d (omega arith) (omega (arith, fits)) third)
+
+  pub tail_changes : (tag : List ℕ) (e : Option (List ℕ)) → tag ≡ end_tag Data → Both (KeepsOutside (place + n - 4) (length tag)) d e → Both (KeepsOutside place n) a e
+  tail_changes tag e tag_is last = let l : length tag ≡ 4 = ap length tag_is in keeps_then place n a d e body_changes (in_chunk (place + n - 4) (length tag) place n d e (omega (arith, fits)) (omega (arith, fits, l)) last)

@@ -1,0 +1,16 @@
+use Rattle.std.proofs.Common.{◌≤◌, ◌-◌}
+use Rattle.cg_io.specs.Blocks.{Both}
+use Rattle.cg_io.specs.Answers.{OnlyReads}
+use Rattle.adf_data.specs.Fills.{Fills}
+use Rattle.adf_data.proofs.fills.fill.Given as goal
+
+abbrev pub invariant-loop-done : goal.invariant-loop-done
+invariant-loop-done g l = record {
+  inside : l.done ≤ l.count;
+  sound : g.S.ReadBytes.is_sound l.space;
+  looks : OnlyReads (g.S.ReadBytes.state l.fn.space) (g.S.ReadBytes.state l.space);
+  filled : Both (Fills l.place l.done) (g.S.ReadBytes.image l.fn.space) (g.S.ReadBytes.image l.space);
+}
+
+abbrev pub decreases-loop-done : goal.decreases-loop-done
+decreases-loop-done g l = l.count - l.done
