@@ -64,3 +64,7 @@ not_None n e = cc
 pub told_before : (files after : Files) (before now : Devices) → OnlyAsks files before now after → IsTold after now → IsTold files before
 told_before files after before now only told n h =
     ap is_some (sym (only.devices_stay.others n (λ e. not_None n e)).held) ∙ told n (ap (λ (fs : Files). is_gone (slot_at fs n)) only.files_stay ∙ h)
+
+-- a node that is live and no link is so after questions
+pub plain_after : (files after : Files) (before now : Devices) (at : NodeId) → OnlyAsks files before now after → (IsTold files before → IsPlain files at) → IsTold after now → IsPlain after at
+plain_after files after before now at only plain told = subst (λ fs. IsPlain fs at) (sym only.files_stay) (plain (told_before files after before now only told))

@@ -12,6 +12,7 @@ ghost use Rattle.adf_model.specs.Steps.{IsAnswer};
 ghost use Rattle.sids_views.specs.Views.{node_there, target_of, kind_there, format_there, entries_there};
 ghost use Rattle.sids_views.specs.Nodes.{view_of};
 
+use crate::node_view::NodeView;
 use crate::replies::{as_bytes, as_children, as_format, as_presence, as_shape, as_target};
 use adf_model::{
     AdfError, Children, Format, NodeId, Query, Reply, Selection, Shape, Text, TreeCalls,
@@ -229,13 +230,6 @@ pub fn seen_kind<C: TreeCalls>(calls: &mut C, node: NodeId) -> Result<Option<Lab
     }
 }
 
-/// The type and the dimensions of a node, and whether it has data.
-#[derive(Clone, Copy, PartialEq, Eq, Drop)]
-pub struct NodeView {
-    pub shape: Shape,
-    pub has_data: bool,
-}
-
 /// The view of a node that is no link. No data are read for it.
 pub fn view_of<C: TreeCalls>(calls: &mut C, at: NodeId) -> Result<NodeView, AdfError>
     requires ready { C.is_ready calls.old }
@@ -251,7 +245,7 @@ pub fn view_of<C: TreeCalls>(calls: &mut C, at: NodeId) -> Result<NodeView, AdfE
 {
     match shape_of_node(calls, at) {
         Ok(shape) => match has_data(calls, at) {
-            Ok(has_data) => Ok(NodeView { shape, has_data }),
+            Ok(has_data) => Ok(NodeView::new(shape, has_data)),
             Err(error) => Err(error),
         },
         Err(error) => Err(error),
