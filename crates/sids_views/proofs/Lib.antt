@@ -6,3 +6,4 @@ pub mod Plain
 pub mod Gathered
 pub mod Causes
 pub mod Entries
+pub mod ChildrenPlain

@@ -115,6 +115,8 @@ pub fn entries_of<C: TreeCalls>(calls: &mut C, at: NodeId) -> Result<Children, A
         → IsValueOr (entries_there (C.files calls.old) at) result }
     ensures there { IsTold (C.files calls.old) (C.devices calls.old)
         → IfOk result (AllByRecursion (λ entry. IsThere (C.files calls.old) entry.node)) }
+    ensures trees { IsTold (C.files calls.old) (C.devices calls.old)
+        → AreTrees (C.files calls.old) }
     ensures cause { HasAskCause (C.files calls.old) (C.devices calls.old)
         (C.devices calls.new) result }
 {

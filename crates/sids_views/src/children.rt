@@ -1,6 +1,6 @@
 //! The children of a node.
 
-ghost use Rattle.std.specs.Prelude.{◌≡◌, filter_map};
+ghost use Rattle.std.specs.Prelude.{◌≡◌, filter_map, IfOk};
 ghost use Rattle.std.specs.List.{AllByRecursion};
 ghost use Rattle.adf_model.specs.Causes.{OnlyAsks};
 ghost use Rattle.adf_model.specs.Slots.{IsTold};
@@ -27,6 +27,8 @@ pub fn children_of<C: TreeCalls>(
         (C.devices calls.new) (C.files calls.new) }
     ensures value { IsTold (C.files calls.old) (C.devices calls.old)
         → IsValueOr (children_there (C.files calls.old) at) result }
+    ensures plain { IsTold (C.files calls.old) (C.devices calls.old)
+        → IfOk result (AllByRecursion (λ child. IsPlain (C.files calls.old) child.target)) }
     ensures cause { HasAskCause (C.files calls.old) (C.devices calls.old)
         (C.devices calls.new) result }
 {
