@@ -2,3 +2,4 @@ pub mod Shown
 pub mod Reading
 pub mod WordLists
 pub mod Pairs
+pub mod Kinds

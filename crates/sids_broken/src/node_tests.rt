@@ -63,11 +63,11 @@ pub fn is_text(view: &NodeView) -> bool
 }
 
 /// For the numbers of a zone, its number of indices; else 0.
-pub fn index_of(view: &NodeView) -> u64
+pub fn index_of(view: &NodeView) -> usize
     ensures { result ≡ shown_index view.now }
 {
     match view.dims() {
-        &[index @ 1..=3, 3] if is_ints(view) => index,
+        &[index @ 1..=3, 3] if is_ints(view) => index as usize,
         _ => 0,
     }
 }

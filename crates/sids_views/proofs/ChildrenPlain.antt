@@ -10,7 +10,7 @@ use Rattle.sids_tables.specs.declared.labels.LabelKind.{LabelKind}
 use Rattle.sids_tables.specs.contracts.labels.LabelKindPartialEq.TheImpl as kind_eq
 use Rattle.sids_views.specs.declared.child.SeenChild.{SeenChild}
 use Rattle.sids_views.specs.Asks.{IsThere, IsPlain, IsValueOr}
-use Rattle.sids_views.specs.Views.{target_of, kind_there, seen_child, first_of, first_called}
+use Rattle.sids_views.specs.Views.{target_of, kind_there, seen_child, first_of, first_called, of_that_kind}
 use Rattle.sids_views.proofs.Plain.{target_plain}
 
 abbrev pub ArePlain : Files → List SeenChild → Type 0
@@ -41,3 +41,10 @@ first_plain files kind (child ∷ children) h = first_or (IsPlain files) (kind_e
 pub called_plain : (files : Files) (name : List ℕ) (children : List SeenChild) → ArePlain files children → IfSome (first_called name children) (λ found. IsPlain files found.0)
 called_plain files name [] h = tt
 called_plain files name (child ∷ children) h = first_or (λ found. IsPlain files found.0) (bytes_eq child.name name) (child.target, child.kind) _ h.0 (called_plain files name children h.1)
+
+that_kind : (files : Files) (kind : LabelKind) (o : Option (NodeId × LabelKind)) → IfSome o (λ found. IsPlain files found.0) → IfSome (of_that_kind kind o) (IsPlain files)
+that_kind files kind None h = tt
+that_kind files kind (Some child) h = first_or (IsPlain files) (kind_eq.ghosts.eq child.1 kind) child.0 None h tt
+
+pub kind_plain : (files : Files) (name : List ℕ) (kind : LabelKind) (children : List SeenChild) → ArePlain files children → IfSome (of_that_kind kind (first_called name children)) (IsPlain files)
+kind_plain files name kind children h = that_kind files kind (first_called name children) (called_plain files name children h)
