@@ -3,3 +3,5 @@ pub mod Reading
 pub mod WordLists
 pub mod Pairs
 pub mod Kinds
+pub mod Rinds
+pub mod NodeRules

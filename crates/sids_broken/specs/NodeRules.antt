@@ -1,0 +1,29 @@
+-- Tests of rules on one node, whose kind is known.
+use Rattle.std.specs.Prelude.{Bool, false, not, ◌&&◌, ◌||◌, [], ◌∷◌}
+use Rattle.adf_format.specs.declared.types.DataType.TheVariants.{R4, R8, B1, C1}
+use Rattle.adf_model.specs.declared.tree.NodeId.{NodeId}
+use Rattle.adf_model.specs.Slots.{Files}
+use Rattle.sids_tables.specs.declared.labels.LabelKind.{LabelKind}
+use Rattle.sids_tables.specs.declared.labels.LabelKind.TheVariants.{FamilyName, SimulationType, DataClass, DimensionalUnits, DimensionalExponents, Descriptor}
+use Rattle.sids_tables.specs.Words.{simulation_types, data_classes}
+use Rattle.sids_views.specs.Views.{node_there}
+use Rattle.sids_rules.specs.Values.{is_type, is_array_of}
+use Rattle.sids_rules.specs.Rules.{is_filled, is_no_word, is_no_text}
+
+-- K16 coordinate-type, of an array in a grid
+abbrev pub is_no_coordinate : Files → NodeId → Bool
+is_no_coordinate files at = is_filled files at && not (is_type R4 (node_there files at)) && not (is_type R8 (node_there files at))
+
+-- K21 field-type, of an array in a solution
+abbrev pub is_no_field : Files → NodeId → Bool
+is_no_field files at = is_filled files at && (is_type C1 (node_there files at) || is_type B1 (node_there files at))
+
+-- K34 small-node, of a node of a kind
+abbrev pub is_no_small_node : LabelKind → Files → NodeId → Bool
+is_no_small_node DataClass files at = is_no_word data_classes files at
+is_no_small_node SimulationType files at = is_no_word simulation_types files at
+is_no_small_node FamilyName files at = is_no_text files at
+is_no_small_node Descriptor files at = is_no_text files at
+is_no_small_node DimensionalUnits files at = not (is_array_of C1 (32 ∷ 5 ∷ []) (node_there files at))
+is_no_small_node DimensionalExponents files at = not (is_array_of R4 (5 ∷ []) (node_there files at) || is_array_of R8 (5 ∷ []) (node_there files at))
+is_no_small_node other files at = false
