@@ -1,7 +1,7 @@
 -- What is known of a node that is a text.
 use Rattle.std.proofs.Common.{◌≡◌, ap, refl, arith, ◌≤◌, ℕ, Bool, true, false, List, []}
 use Rattle.std.proofs.Common.{Decides}
-use Rattle.std.specs.Prelude.{◌&&◌, ◌==◌, is_some, length, nat_le, if◌then◌else◌, unwrap_or, Contains}
+use Rattle.std.specs.Prelude.{◌&&◌, ◌||◌, ◌==◌, is_some, length, nat_le, if◌then◌else◌, unwrap_or, Contains}
 use Rattle.std.proofs.lemmas.Bool.Decides.{same_from_decides}
 use Rattle.adf_format.specs.declared.types.DataType.TheVariants.{C1}
 use Rattle.adf_format.specs.Tree.{Node}
@@ -38,3 +38,7 @@ text_is node = unpadded (is_text node) (unwrap_or node.bytes [])
 -- a test that is true exactly for the words of a list is that of the definitions
 pub word_is : (words : List (List ℕ)) (text : List ℕ) (b : Bool) → Decides b (Contains words text) → b ≡ is_word words text
 word_is words text b h = same_from_decides b (is_word words text) h (word_decided words text)
+
+pub or_false : (b : Bool) → (b || false) ≡ b
+or_false true = refl
+or_false false = refl

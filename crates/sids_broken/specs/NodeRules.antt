@@ -1,14 +1,15 @@
 -- Tests of rules on one node, whose kind is known.
-use Rattle.std.specs.Prelude.{Bool, false, not, ◌&&◌, ◌||◌, [], ◌∷◌}
+use Rattle.std.specs.Prelude.{ℕ, Bool, false, not, ◌&&◌, ◌||◌, ◌==◌, codes, List, [], ◌∷◌}
 use Rattle.adf_format.specs.declared.types.DataType.TheVariants.{R4, R8, B1, C1}
 use Rattle.adf_model.specs.declared.tree.NodeId.{NodeId}
 use Rattle.adf_model.specs.Slots.{Files}
 use Rattle.sids_tables.specs.declared.labels.LabelKind.{LabelKind}
 use Rattle.sids_tables.specs.declared.labels.LabelKind.TheVariants.{FamilyName, SimulationType, DataClass, DimensionalUnits, DimensionalExponents, Descriptor}
 use Rattle.sids_tables.specs.Words.{simulation_types, data_classes}
-use Rattle.sids_views.specs.Views.{node_there}
+use Rattle.sids_views.specs.declared.child.SeenChild.{SeenChild}
+use Rattle.sids_views.specs.Views.{node_there, given, first_called}
 use Rattle.sids_rules.specs.Values.{is_type, is_array_of}
-use Rattle.sids_rules.specs.Rules.{is_filled, is_no_word, is_no_text}
+use Rattle.sids_rules.specs.Rules.{is_filled, is_no_word, is_no_text, count_points, is_point_range, is_point_list}
 
 -- K16 coordinate-type, of an array in a grid
 abbrev pub is_no_coordinate : Files → NodeId → Bool
@@ -27,3 +28,10 @@ is_no_small_node Descriptor files at = is_no_text files at
 is_no_small_node DimensionalUnits files at = not (is_array_of C1 (32 ∷ 5 ∷ []) (node_there files at))
 is_no_small_node DimensionalExponents files at = not (is_array_of R4 (5 ∷ []) (node_there files at) || is_array_of R8 (5 ∷ []) (node_there files at))
 is_no_small_node other files at = false
+
+-- K32 bc-points, by the children of a boundary condition
+abbrev pub are_points_bad : ℕ → Files → List SeenChild → Bool
+are_points_bad index files children =
+    not (count_points children == 1)
+    || given (first_called (codes "PointRange") children) (λ child. not (is_point_range index files child))
+    || given (first_called (codes "PointList") children) (λ child. not (is_point_list index files child))

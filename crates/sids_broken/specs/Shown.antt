@@ -6,6 +6,7 @@ use Rattle.adf_format.specs.Names.{is_same_type, data_size}
 use Rattle.adf_model.specs.Edits.{size_limit}
 use Rattle.sids_views.specs.Nodes.{View}
 use Rattle.sids_rules.specs.Terms.{index_in}
+use Rattle.sids_rules.specs.Rules.{are_point_dims}
 
 abbrev pub shows_type : DataType → View → Bool
 shows_type kind view = is_same_type view.kind kind
@@ -37,3 +38,7 @@ shows_text view = shows_type C1 view && (length view.dims == 1) && view.has_data
 -- the number of indices of a zone; 0 where its numbers are none of a zone
 abbrev pub shown_index : View → ℕ
 shown_index view = if shows_ints view then index_in view.dims else 0
+
+-- whole numbers with data, so many for each point
+abbrev pub shows_points : ℕ → View → Bool
+shows_points index view = shows_ints view && are_point_dims index view.dims

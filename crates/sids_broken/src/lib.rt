@@ -3,6 +3,7 @@
 #![tactic(auto)]
 
 mod bases;
+mod conditions;
 mod node_rules;
 mod node_tests;
 mod numbers;
@@ -12,6 +13,7 @@ mod texts;
 mod zones;
 
 pub use bases::{BaseDimensions, base_dimensions};
+pub use conditions::{breaks_bc_family, breaks_bc_points};
 pub use node_rules::{
     breaks_array_data, breaks_coordinate_type, breaks_field_type, breaks_not_empty, breaks_place,
     breaks_rind_data, breaks_rind_name, breaks_small_node, breaks_version, breaks_version_data,
@@ -19,7 +21,7 @@ pub use node_rules::{
 };
 pub use node_tests::{index_of, is_array, is_filled, is_ints, is_ints_of, is_text, is_type};
 pub use numbers::ints_of;
-pub use rinds::rind_in;
+pub use rinds::rind_there;
 pub use sections::{ElementRange, SectionHead, connectivity_of, section_head, section_range};
 pub use texts::{WordList, is_no_word, text_of};
 pub use zones::{ZoneSizes, zone_kind, zone_sizes};

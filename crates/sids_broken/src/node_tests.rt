@@ -1,6 +1,6 @@
 //! Tests on what is looked at of a node before its data are read.
 
-ghost use Rattle.std.specs.Prelude.{◌≡◌};
+ghost use Rattle.std.specs.Prelude.{◌≡◌, ◌≤◌};
 ghost use Rattle.adf_format.specs.Names.{is_same_type};
 ghost use Rattle.sids_broken.specs.Shown.{shows_type, shows_array, shows_ints, shows_ints_of};
 ghost use Rattle.sids_broken.specs.Shown.{shows_filled, shows_text, shown_index};
@@ -64,7 +64,8 @@ pub fn is_text(view: &NodeView) -> bool
 
 /// For the numbers of a zone, its number of indices; else 0.
 pub fn index_of(view: &NodeView) -> usize
-    ensures { result ≡ shown_index view.now }
+    ensures value { result ≡ shown_index view.now }
+    ensures few { result ≤ 3 }
 {
     match view.dims() {
         &[index @ 1..=3, 3] if is_ints(view) => index as usize,

@@ -1,6 +1,6 @@
 //! The sizes of zones, and how their vertices are connected.
 
-ghost use Rattle.std.specs.Prelude.{◌≡◌, ◌≢◌, ◌*◌, true, IfSome, Some, take, drop};
+ghost use Rattle.std.specs.Prelude.{◌≡◌, ◌≢◌, ◌≤◌, ◌*◌, true, IfSome, Some, take, drop};
 ghost use Rattle.adf_model.specs.Causes.{OnlyAsks};
 ghost use Rattle.adf_model.specs.Slots.{IsTold};
 ghost use Rattle.sids_views.specs.Asks.{IsValueOr, HasAskCause, IsPlain};
@@ -28,15 +28,19 @@ pub struct ZoneSizes {
 }
 
 impl Model for ZoneSizes {
+    ghost use Rattle.std.specs.Prelude.{◌≤◌};
     ghost use Rattle.sids_rules.specs.Terms.{Sizes, sizes_in};
 
     ghost Value = { Sizes };
 
     ghost view = { λ s. sizes_in s.index s.numbers };
+
+    ghost invariant = { λ s. s.index ≤ 3 };
 }
 
 impl ZoneSizes {
     fn new(index: usize, numbers: Numbers) -> ZoneSizes
+        requires { index ≤ 3 }
         ensures { result ≡ sizes_in index numbers }
     {
         ZoneSizes { index, numbers }
@@ -44,7 +48,8 @@ impl ZoneSizes {
 
     /// The number of indices.
     pub fn index(&self) -> usize
-        ensures { result ≡ self.now.index }
+        ensures value { result ≡ self.now.index }
+        ensures few { result ≤ 3 }
     {
         self.index
     }
@@ -126,6 +131,7 @@ fn sizes_at<C: TreeCalls>(
     requires zone { IsTold (C.files calls.old) (C.devices calls.old)
         → index_of (node_there (C.files calls.old) at) ≡ index }
     requires some { index ≢ 0 }
+    requires few { index ≤ 3 }
     requires width { IsTold (C.files calls.old) (C.devices calls.old)
         → is_wide (node_there (C.files calls.old) at) ≡ wide }
     requires ready { C.is_ready calls.old }
