@@ -23,7 +23,7 @@ use Rattle.adf_format.proofs.HeapLaws.{in_range, join_range}
 use Rattle.adf_format.proofs.HeapSteps.{cover-append, take_end}
 use Rattle.adf_model.specs.Selection.{written_over}
 use Rattle.adf_model.specs.NodeData.{grown_range}
-use Rattle.adf_model.proofs.DataRoom.{cover-give_all}
+use Rattle.adf_model.proofs.Writes.DataRoom.{cover-give_all}
 use Rattle.disk_ptr.specs.View.{view}
 use Rattle.file_heap.specs.Links.{range}
 use Rattle.file_heap.specs.Heap.{IsHeap, ChangesOnly, MovesEnd, KeepsFillers, IsTakenWithin, TakesCover}

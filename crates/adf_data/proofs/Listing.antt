@@ -18,7 +18,7 @@ use Rattle.disk_ptr.specs.declared.DiskPtr.{DiskPtr}
 use Rattle.disk_ptr.specs.declared.DiskPtr.TheVariants.{At}
 use Rattle.adf_format.specs.Pointer.{place_value}
 use Rattle.adf_format.specs.Pointer as spelled
-use Rattle.adf_model.proofs.WalkCounts.{place_small}
+use Rattle.adf_model.proofs.Walks.WalkCounts.{place_small}
 use Rattle.adf_data.specs.declared.place.DataPlace.{DataPlace}
 use Rattle.adf_data.specs.declared.chunks.Chunk.{Chunk}
 use Rattle.adf_data.specs.Chunks.{part_of, part_at, SaysChunk, HeadSaysChunk, AreNamed, Named, NoneNamed}

@@ -22,7 +22,7 @@ use Rattle.adf_data.specs.declared.place.DataPlace.{DataPlace}
 use Rattle.adf_data.specs.declared.chunks.Chunk.{Chunk}
 use Rattle.adf_data.specs.Chunks.{part_of, parts_of, Named}
 use Rattle.adf_data.specs.Sizes.{extents_in, MayGiveAll, Ungivable}
-use Rattle.adf_model.proofs.DataRoom.{cover-give_all, end-give_all}
+use Rattle.adf_model.proofs.Writes.DataRoom.{cover-give_all, end-give_all}
 use Rattle.adf_data.proofs.GiveLaws.{untold_before}
 
 -- ---- the table

@@ -25,7 +25,7 @@ use Rattle.plain_library.proofs.FirstOf.{refused_by}
 use Rattle.plain_library.specs.Calls.{IsCreatedAt, CreatedAt, BrokenAt, KeepsAll, IsTreeRefusal, EntersAt, entry_tests, as_group}
 use Rattle.plain_library.proofs.Among.{OneSet, set_there, same_files, others_read, all_read, others_placed, all_placed, read_same}
 use Rattle.plain_library.proofs.Asks.{HasNoLinks, is_there, same_tests}
-use Rattle.adf_model.proofs.EditCauses.{applied_refused}
+use Rattle.adf_model.proofs.Answering.EditCauses.{applied_refused}
 use Rattle.plain_library.proofs.Steps.{first_of_kind, create_plain, tree_plain, create_not_of_files, create_not_foreign, entry_not_foreign}
 
 same_open : (a o : Open) → a.writable ≡ o.writable → a.limit ≡ o.limit → a ≡ record o { tree = a.tree }

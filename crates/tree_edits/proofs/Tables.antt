@@ -11,7 +11,7 @@ use Rattle.adf_format.proofs.LayoutLaws.{live_parts}
 use Rattle.adf_model.specs.Edits.{with_node}
 use Rattle.adf_model.proofs.Basics.{not_true}
 use Rattle.std.proofs.Math.Seq.{map-set_same}
-use Rattle.adf_model.proofs.Keeps.{at-set}
+use Rattle.adf_model.proofs.Keeping.Keeps.{at-set}
 use Rattle.tree_edits.specs.declared.rows.Row.{Row}
 use Rattle.tree_edits.specs.Rows.{SaysRow, IsRowOf, IsTable}
 
