@@ -18,8 +18,13 @@ ghost use Rattle.layout_laws.specs.NodePass.{Waiting, IsUnderway, AreMet, is_kno
 /// that were met are listed as a verdict names them.
 pub fn over_nodes()
     ensures start { (image : List ℕ)
-        → IsUnderway image (record { place = (root_visit image).place; entry = None; parent = 0;
-        position = 0; depth = 0 } ∷ []) [] }
+        → IsUnderway image (record {
+          place = (root_visit image).place;
+          entry = None;
+          parent = 0;
+          position = 0;
+          depth = 0;
+        } ∷ []) [] }
     ensures on { (image : List ℕ) (stack : List Waiting) (m : Waiting) (nodes : List Waiting)
         → IsUnderway image (stack ++ m ∷ []) nodes
         → first_broken (node_rows_at image (is_wide image) (end_in image) (is_known nodes m.place)
