@@ -29,3 +29,4 @@ pub mod WholeEdits
 pub mod WholeData
 pub mod WholeGroups
 pub mod TreeFacts
+pub mod Placed

@@ -11,5 +11,6 @@ pub mod group_laws;
 pub mod holding_laws;
 pub mod leaving_laws;
 pub mod move_laws;
+pub mod placed_laws;
 pub mod reading_laws;
 pub mod whole_laws;

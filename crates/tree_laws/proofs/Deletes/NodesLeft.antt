@@ -70,7 +70,7 @@ erased_same k gone (x ∷ xs) (y ∷ ys) e =
     ap (λ (b : Bool). b ∷ map is_some (erased_from (suc k) gone xs)) (one_same (gone k) x y (ap (λ (bs : List Bool). get_or bs 0 false) e))
     ∙ ap (λ bs. is_some (if gone k then None else y) ∷ bs) (erased_same (suc k) gone xs ys (ap (λ (bs : List Bool). drop 1 bs) e))
 
-cover_erased : (wide : Bool) (k : ℕ) (gone : ℕ → Bool) (xs : List (Option NodeParts)) (b : ℕ)
+pub cover_erased : (wide : Bool) (k : ℕ) (gone : ℕ → Bool) (xs : List (Option NodeParts)) (b : ℕ)
     → cover (flat_map (extents_of wide) (erased_from k gone xs)) b + cover (flat_map (extents_of wide) (erased_from k (λ j. not (gone j)) xs)) b ≡ cover (flat_map (extents_of wide) xs) b
 cover_erased wide k gone [] b = refl
 cover_erased wide k gone (x ∷ xs) b =
