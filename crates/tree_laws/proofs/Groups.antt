@@ -8,3 +8,4 @@ pub mod GroupLeft
 pub mod FileGroups
 pub mod GroupLoop
 pub mod FileLoop
+pub mod FileStops

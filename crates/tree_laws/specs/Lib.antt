@@ -30,3 +30,4 @@ pub mod WholeData
 pub mod WholeGroups
 pub mod TreeFacts
 pub mod Placed
+pub mod FileStops

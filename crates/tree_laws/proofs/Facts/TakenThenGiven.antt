@@ -225,10 +225,11 @@ module _ (limit : ℕ) (wide : Bool) (p : Placement) where
       by_room true entries made =
           let t = takes_bytes q [] [] (table_length entries) (λ (t : Taken). Ok (with_table t.1 s entries t.0)) g (omega arith) c made in
           let there = own_long q s c.alive has in
-          subst (λ (h : GrownTable). Came limit wide p h.placed [] h.given × ((k : ℕ) → Has q k → Has h.placed k)) (same_Ok t.3)
-          (renewed (record q { heap = t.1 }) s (record (parts_at q s) { table = Some (record { place = t.0; entries = entries }) }) (new_range limit wide p t.0 (table_length entries) ∷ []) [] [] (table_extents (parts_at q s).table) t.2 has refl
-          (some_chunks wide (parts_at q s) there) (some_table (parts_at q s).table) (λ b. omega arith),
-          λ k h. has_set q.parts s k _ h)
+          subst (λ (h : GrownTable). Came limit wide p h.placed [] h.given × ((k : ℕ) → Has q k → Has h.placed k)) (same_Ok t.3) (
+            renewed (record q { heap = t.1 }) s (record (parts_at q s) { table = Some (record { place = t.0; entries = entries }) }) (new_range limit wide p t.0 (table_length entries) ∷ []) [] [] (table_extents (parts_at q s).table) t.2 has refl
+                (some_chunks wide (parts_at q s) there) (some_table (parts_at q s).table) (λ b. omega arith),
+            λ k h. has_set q.parts s k _ h,
+          )
       by_room false entries made = subst (λ (h : GrownTable). Came limit wide p h.placed [] h.given × ((k : ℕ) → Has q k → Has h.placed k)) (same_Ok made) (c, λ k h. h)
 
   -- ---- data
