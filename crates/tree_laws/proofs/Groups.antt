@@ -9,3 +9,4 @@ pub mod FileGroups
 pub mod GroupLoop
 pub mod FileLoop
 pub mod FileStops
+pub mod Pays

@@ -31,3 +31,4 @@ pub mod WholeGroups
 pub mod TreeFacts
 pub mod Placed
 pub mod FileStops
+pub mod Pays
