@@ -107,6 +107,7 @@ fn laws_of_records_and_layouts_are_calls() {
     laws::frame();
     laws::takes();
     laws::gives();
+    laws::gives_in_any_order();
 }
 
 #[test]

@@ -2,8 +2,8 @@
 
 use adf_model::{
     AdfError, DataType, Shape, ask_laws, create_laws, data_laws, edit_laws, element_size,
-    fault_laws, is_label, is_name, is_shape, is_wide_shape, laws, one_file_laws, run_laws, size,
-    spell, standing_laws, tree_laws, untouched_laws, walk_laws, write_laws,
+    fault_laws, file_group_laws, is_label, is_name, is_shape, is_wide_shape, laws, one_file_laws,
+    run_laws, size, spell, standing_laws, tree_laws, untouched_laws, walk_laws, write_laws,
 };
 use std::alloc::Global;
 
@@ -189,7 +189,10 @@ fn laws_of_calls_are_calls() {
     data_laws::room_of_data();
     data_laws::other_parts();
     fault_laws::faults_bound_replies();
+    file_group_laws::few_edits_and_broken_files();
+    file_group_laws::file_groups_have_causes();
     one_file_laws::one_file_as_many();
+    one_file_laws::one_query_as_many();
     ask_laws::asks_leave_all();
     ask_laws::queries_have_causes();
     run_laws::states_are_laid_out();

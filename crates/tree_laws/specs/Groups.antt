@@ -1,10 +1,9 @@
 -- A group of edits that goes on by one more: its tree, its placement, what it touches, costs and needs.
-use Rattle.std.specs.Prelude.{◌≡◌, ℕ, suc, ◌+◌, Bool, List, [], ◌∷◌, ◌++◌, length, map, take, slice_get, Some, Result, Ok, Err, ⊤}
+use Rattle.std.specs.Prelude.{◌≡◌, ℕ, suc, ◌+◌, Bool, List, [], ◌∷◌, ◌++◌, length, map, take, slice_get, Some, Result, Ok, ⊤}
 use Rattle.std.specs.Result.{result_unwrap_or}
 use Rattle.adf_format.specs.Tree.{Tree}
 use Rattle.adf_format.specs.Placement.{Placement}
 use Rattle.adf_format.specs.HeapRule.{LimitReached, place_edit, ◌>>=◌}
-use Rattle.adf_model.specs.declared.error.AdfError.{AdfError}
 use Rattle.adf_model.specs.declared.tree.Edit.{Edit}
 use Rattle.adf_model.specs.Tests.{and_then}
 use Rattle.adf_model.specs.Edits.{Work, IsReached, apply, at_edit, created_by, file_step, file_group}

@@ -1,5 +1,5 @@
 -- How many blocks the steps of an edit let wait to be written: at most as many as the edit costs.
-use Rattle.std.specs.Prelude.{ℕ, ◌+◌, ◌*◌, ◌/◌, ◌≤◌, List, length, map, sum}
+use Rattle.std.specs.Prelude.{ℕ, ◌+◌, ◌*◌, ◌/◌, ◌≤◌, length, map, sum}
 use Rattle.adf_format.specs.Tree.{Tree, children_at, parent_of}
 use Rattle.adf_format.specs.Links.{link_text}
 use Rattle.adf_format.specs.Parts.{node_length, chunk_table_length}

@@ -1,9 +1,9 @@
 -- What edits leave of the tree, as a table of the nodes needs it: who is live, who stands above whom, and which serial is drawn next.
-use Rattle.std.specs.Prelude.{◌≡◌, ◌≢◌, ℕ, suc, ◌+◌, true, List, [], ◌∷◌, ◌++◌, length, Option, Some, None, Ok}
+use Rattle.std.specs.Prelude.{◌≡◌, ◌≢◌, ℕ, suc, ◌+◌, true, [], ◌∷◌, ◌++◌, length, Option, Some, None, Ok}
 use Rattle.adf_format.specs.Tree.{Node, Tree, IsTree, node_at, is_live, name_at, children_at, next_serial, parent_of, depth_of, lineage}
 use Rattle.adf_format.specs.Links.{link_text}
 use Rattle.adf_model.specs.declared.tree.Edit.{Edit}
-use Rattle.adf_model.specs.declared.tree.Edit.TheVariants.{Create, Delete, Rename, Move, SetLabel, SetDims, PutAll, PutPart, Link}
+use Rattle.adf_model.specs.declared.tree.Edit.TheVariants.{Create, Rename, SetLabel, SetDims, PutAll, PutPart, Link}
 use Rattle.adf_model.specs.Edits.{IsReached, apply, created_by, new_node, new_link, with_shape, with_part}
 
 -- ---- one node changes

@@ -1,20 +1,22 @@
 -- An edit that changes one node in its place leaves who stands above whom.
-use Rattle.std.proofs.Common.{◌≡◌, ◌≢◌, ℕ, not, refl, sym, ◌∙◌, ap, subst, List, [], ◌∷◌, ◌++◌, length, ◌-◌}
+use Rattle.std.proofs.Common.{◌≡◌, ℕ, not, refl, sym, ◌∙◌, ap, subst, List, [], ◌∷◌, ◌++◌, length, ◌-◌}
 use Rattle.std.proofs.lemmas.List.{length-set, get_or-set_same, get_or-set_other}
 use Rattle.std.proofs.Math.Seq.{map-set_same}
-use Rattle.std.specs.Prelude.{Option, Some, None, is_some, Ok}
+use Rattle.std.specs.Prelude.{Some, None, is_some, Ok}
 use Rattle.adf_format.specs.Names.{is_name, is_label}
 use Rattle.adf_format.specs.Tree.{Node, Tree, IsTree, node_at, children_of, families, climb, parent_of, parent_from, lineage}
 use Rattle.adf_model.specs.declared.error.AdfError.{AdfError}
-use Rattle.adf_model.specs.declared.tree.Edit.{Edit}
 use Rattle.adf_model.specs.declared.tree.Edit.TheVariants.{Create, Delete, Rename, Move, SetLabel, SetDims, PutAll, PutPart, Link}
-use Rattle.adf_model.specs.Edits.{IsReached, with_node, with_shape, with_part, has_named, other_children, shape_tests, data_tests, length_test, part_size, size_of}
+use Rattle.adf_model.specs.Edits.{with_node, with_shape, with_part, has_named, other_children, shape_tests, data_tests, length_test, part_size, size_of}
 use Rattle.adf_model.specs.Selection.{selection_fits}
 use Rattle.adf_model.proofs.Basics.{passed, found, same_Ok, same_Some, not_there}
 use Rattle.adf_model.proofs.Creation.CreatedNodes.{there_inside}
 use Rattle.adf_model.proofs.Keeping.EditsKeep.{apply_keeps}
 use Rattle.adf_model.proofs.Keeping.Keeps.{at-set}
 use Rattle.tree_laws.specs.TreeFacts.{changed_node, IsChanged, ChangedInItsTree}
+use Rattle.adf_model.proofs.CreatedNodes.{there_inside}
+use Rattle.adf_model.proofs.EditsKeep.{apply_keeps}
+use Rattle.adf_model.proofs.Keeps.{at-set}
 
 module _ (tree : Tree) (s : ℕ) (was : Node) (now : Node → Node) (at : node_at tree s ≡ Some was) (same : (now was).children ≡ was.children) where
   abbrev next : Tree

@@ -1,22 +1,18 @@
 -- Each edit that is placed takes ranges of the heap, and then gives others.
-use Rattle.std.proofs.Common.{◌≡◌, ℕ, suc, refl, sym, ◌∙◌, ap, subst, arith, Bool, true, false, not, List, [], ◌∷◌, ◌++◌, length, get_or, map, cond, ◌+◌, ◌<◌}
+use Rattle.std.proofs.Common.{◌≡◌, ℕ, suc, refl, sym, ◌∙◌, ap, subst, arith, Bool, true, false, not, List, [], ◌∷◌, length, cond}
 use Rattle.std.proofs.lemmas.List.{length-map}
 use Rattle.std.specs.Prelude.{Option, Some, None, IsSome, is_some, Result, Ok, Err}
 use Rattle.std.specs.List.{flat_map}
-use Rattle.adf_format.specs.declared.types.Extent.{Extent}
 use Rattle.adf_format.specs.declared.types.ExtentKind.{ExtentKind}
 use Rattle.adf_format.specs.Tree.{Tree, Node, node_at, next_serial, is_live, erased_from}
 use Rattle.adf_format.specs.Tiles.{cover}
 use Rattle.adf_format.specs.Parts.{node_length}
 use Rattle.adf_format.specs.Placement.{Placement, NodeParts, Heap, extent, parts_of, extents_of, live_extents}
 use Rattle.adf_format.specs.LaysOut.{LaysOut}
-use Rattle.adf_format.specs.HeapRule.{LimitReached, Taken, GrownTable, no_parts, parts_at, with_new_parts, grow_table, after_gives, place_data, place_new, place_deleted, place_moved, data_at, ◌>>=◌}
-use Rattle.adf_format.proofs.BehindEnd.{AllLong, long_append, long_node}
-use Rattle.adf_format.proofs.HeapSteps.{cover-append}
+use Rattle.adf_format.specs.HeapRule.{LimitReached, GrownTable, no_parts, with_new_parts, grow_table, after_gives, place_data, place_new, place_deleted, place_moved, data_at, ◌>>=◌}
+use Rattle.adf_format.proofs.BehindEnd.{AllLong, long_node}
 use Rattle.adf_format.proofs.LayoutLaws.{live_parts}
-use Rattle.adf_model.specs.declared.tree.Edit.{Edit}
 use Rattle.adf_model.specs.declared.tree.Edit.TheVariants.{Create, Delete, Rename, Move, SetLabel, SetDims, PutAll, PutPart, Link}
-use Rattle.adf_model.specs.Edits.{IsReached, apply}
 use Rattle.adf_model.proofs.Basics.{not_true, not_Err, same_Ok}
 use Rattle.adf_model.proofs.PartsApart.{cover_last}
 use Rattle.tree_laws.specs.Placed.{TakesThenGives, EditTakesThenGives}

@@ -1,10 +1,9 @@
 -- A node that an edit makes is the last child of its parent, and leaves who stands above whom.
-use Rattle.std.proofs.Common.{◌≡◌, ◌≢◌, inl, inr, ℕ, zero, suc, ◌^◌, ◌<◌, ◌+◌, ◌-◌, not, true, false, refl, sym, ◌∙◌, ap, subst, arith, List, [], ◌∷◌, ◌++◌, length, get_or}
+use Rattle.std.proofs.Common.{◌≡◌, ◌≢◌, inl, inr, ℕ, ◌^◌, ◌<◌, ◌+◌, ◌-◌, true, false, refl, sym, ◌∙◌, ap, subst, arith, List, [], ◌∷◌, ◌++◌, length, get_or}
 use Rattle.std.proofs.lemmas.Bool.Decides.{eqb_tells}
-use Rattle.std.specs.Prelude.{Option, Some, None, is_some, slice_get, ◌&&◌, ◌||◌, nat_le, nat_lt, Ok}
-use Rattle.adf_format.specs.Names.{is_name}
-use Rattle.adf_format.specs.Links.{is_link_file, is_link_path, link_text}
-use Rattle.adf_format.specs.Tree.{Node, Tree, IsTree, node_at, children_at, children_of, name_of, is_live, lineage, depth_of, parent_of, next_serial, first_named, is_link_in}
+use Rattle.std.specs.Prelude.{Option, Some, None, is_some, slice_get, nat_le, nat_lt, Ok}
+use Rattle.adf_format.specs.Links.{link_text}
+use Rattle.adf_format.specs.Tree.{Node, Tree, IsTree, node_at, children_of, name_of, is_live, lineage, parent_of, next_serial, first_named, is_link_in}
 use Rattle.adf_model.specs.declared.error.AdfError.{AdfError}
 use Rattle.adf_model.specs.declared.tree.Edit.{Edit}
 use Rattle.adf_model.specs.declared.tree.Edit.TheVariants.{Create, Delete, Rename, Move, SetLabel, SetDims, PutAll, PutPart, Link}
@@ -16,6 +15,9 @@ use Rattle.adf_model.proofs.Creation.CreateStays.{there}
 use Rattle.adf_model.proofs.Keeping.JoinedChild.{MayJoin, joined_sound, joined_kind, serial_drawn, child_there, parent_there, last_child, others_stay, above_stay, above_child, child_depth}
 use Rattle.adf_model.proofs.Keeping.LinkKeeps.{IsNode-new_link}
 use Rattle.tree_laws.specs.TreeFacts.{joined_node, changed_node, IsJoined, JoinedInItsTree, SerialsAreDrawn}
+use Rattle.adf_model.proofs.CreatedChild.{there, parent, may_join, is_new}
+use Rattle.adf_model.proofs.JoinedChild.{MayJoin, joined_sound, joined_kind, serial_drawn, child_there, parent_there, last_child, others_stay, above_stay, above_child, child_depth}
+use Rattle.adf_model.proofs.LinkKeeps.{IsNode-new_link}
 use Rattle.tree_laws.proofs.Edits.Plans.{parents_by_lineage}
 use Rattle.tree_laws.proofs.Deletes.DeletedTree.{deleted_in_its_tree}
 use Rattle.tree_laws.proofs.Moves.MovedTree.{moved_in_its_tree}

@@ -1,16 +1,16 @@
 -- Takes and then gives keep the tiling and the order of gaps, and add no pair of gaps that touch.
-use Rattle.std.proofs.Common.{◌≡◌, inl, inr, ℕ, refl, sym, ◌∙◌, ap, subst, arith, List, [], ◌∷◌, ◌++◌, ◌+◌, ◌-◌, ◌<◌, ◌≤◌, ◌⊎◌, Bool, true, false}
+use Rattle.std.proofs.Common.{◌≡◌, inl, inr, ℕ, sym, ◌∙◌, ap, subst, arith, List, [], ◌∷◌, ◌+◌, ◌-◌, ◌<◌, ◌≤◌, ◌⊎◌, Bool, true, false}
 use Rattle.std.proofs.lemmas.Bool.Decides.{nat_tests, leb_tells}
 use Rattle.adf_format.specs.declared.types.Extent.{Extent}
 use Rattle.std.specs.Prelude.{nat_le, Ok}
 use Rattle.adf_format.specs.Tree.{Tree}
 use Rattle.adf_format.specs.Tiles.{Tiles, cover, MeetsNone}
-use Rattle.adf_format.specs.Placement.{Placement, Heap, live_extents, head_extents, all_extents}
-use Rattle.adf_format.specs.LaysOut.{LaysOut, AreGapsInOrder}
-use Rattle.adf_format.specs.HeapRule.{heap_take, heap_give, give_joined, give_all, pairs}
+use Rattle.adf_format.specs.Placement.{Placement, Heap, all_extents}
+use Rattle.adf_format.specs.LaysOut.{AreGapsInOrder}
+use Rattle.adf_format.specs.HeapRule.{heap_give, give_all, pairs}
 use Rattle.adf_format.proofs.BehindEnd.{AllLong}
 use Rattle.adf_format.proofs.HeapLaws.{in_range, join_range, cover-give_joined}
-use Rattle.adf_format.proofs.HeapSteps.{cover-append, cover-take, take_end, take_keeps_order, give_keeps_order}
+use Rattle.adf_format.proofs.HeapSteps.{cover-take, take_end, take_keeps_order, give_keeps_order}
 use Rattle.adf_model.specs.declared.tree.Edit.{Edit}
 use Rattle.adf_model.specs.Edits.{Work, file_group}
 use Rattle.adf_model.specs.FileGroup.{done_by}

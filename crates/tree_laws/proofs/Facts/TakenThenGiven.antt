@@ -1,21 +1,21 @@
 -- An edit takes ranges of the heap, and then gives others.
-use Rattle.std.proofs.Common.{◌≡◌, ℕ, zero, suc, refl, sym, ◌∙◌, ap, subst, arith, Bool, true, false, not, List, [], ◌∷◌, ◌++◌, length, get_or, ◌+◌, ◌-◌, ◌<◌, ◌≤◌}
-use Rattle.std.proofs.lemmas.List.{length-append, append_assoc}
+use Rattle.std.proofs.Common.{◌≡◌, ℕ, zero, suc, refl, sym, ◌∙◌, ap, subst, arith, Bool, true, false, List, [], ◌∷◌, ◌++◌, length, get_or, ◌+◌, ◌-◌, ◌<◌}
+use Rattle.std.proofs.lemmas.List.{length-append}
 use Rattle.std.specs.Prelude.{Option, Some, None, is_some, slice_set, Result, Ok, Err, if◌then◌else◌, ◌==◌, nat_lt, nat_le}
 use Rattle.std.specs.List.{flat_map}
 use Rattle.adf_format.specs.declared.types.Extent.{Extent}
 use Rattle.adf_format.specs.declared.types.ExtentKind.{ExtentKind}
-use Rattle.adf_format.specs.Tree.{Tree, Node, node_at, children_at, next_serial, is_live, is_within, erased_from, parent_of}
+use Rattle.adf_format.specs.Tree.{Tree, children_at, erased_from}
 use Rattle.adf_format.specs.Tiles.{cover}
 use Rattle.adf_format.specs.Parts.{node_length, table_length, chunk_table_length}
 use Rattle.adf_format.specs.Placement.{Placement, NodeParts, TablePart, ChunkPart, Heap, extent, parts_of, extents_of, node_extents, live_extents, table_extents, chunk_table_extents, chunk_extents}
-use Rattle.adf_format.specs.LaysOut.{LaysOut, entry_count}
-use Rattle.adf_format.specs.HeapRule.{LimitReached, Taken, GrownTable, heap_take, heap_give, give_all, after_gives, take_bytes, no_parts, parts_or_none, parts_at, with_parts, with_new_parts, with_table, grow_table, grown_entries, chunk, chunk_length_for, payload_length, data_extents, in_one_chunk, in_one_more, hold, release, place_data, place_new, place_moved, place_edit, data_at, ◌>>=◌}
+use Rattle.adf_format.specs.LaysOut.{entry_count}
+use Rattle.adf_format.specs.HeapRule.{LimitReached, Taken, GrownTable, heap_take, heap_give, give_all, after_gives, take_bytes, parts_or_none, parts_at, with_parts, with_table, grow_table, grown_entries, chunk, chunk_length_for, payload_length, data_extents, in_one_chunk, in_one_more, hold, place_data, ◌>>=◌}
 use Rattle.adf_format.proofs.BehindEnd.{AllLong, long_append, long_chunk_table}
 use Rattle.adf_format.proofs.HeapLaws.{in_range}
 use Rattle.adf_format.proofs.HeapSteps.{cover-append}
-use Rattle.adf_model.proofs.Basics.{not_true, not_Err, same_Ok, same_Some, not_there}
-use Rattle.adf_model.proofs.PartsApart.{cover_set, cover_last}
+use Rattle.adf_model.proofs.Basics.{not_true, not_Err, same_Ok}
+use Rattle.adf_model.proofs.PartsApart.{cover_set}
 use Rattle.tree_laws.specs.Placed.{TakesAll, TakesThenGives}
 
 -- ---- ranges with bytes

@@ -1,13 +1,7 @@
 -- A group of edits on one file stops as its tree refuses it, or where the heap has no room.
-use Rattle.std.proofs.Common.{◌≡◌, ◌⊎◌, inl, inr, ℕ, List}
-use Rattle.std.specs.Prelude.{Err}
-use Rattle.adf_model.specs.declared.error.AdfError.{AdfError}
+use Rattle.std.proofs.Common.{inl, inr}
 use Rattle.adf_model.specs.declared.error.AdfError.TheVariants.{Memory, ReadFault, WriteFault, Full}
-use Rattle.adf_model.specs.declared.tree.Edit.{Edit}
-use Rattle.adf_model.specs.Edits.{file_group}
-use Rattle.adf_model.specs.Slots.{Open, Slot, Device}
-use Rattle.adf_model.specs.FileGroup.{FileStops}
-use Rattle.tree_laws.specs.FileStops.{IsNotOfTree, StopsAsTree, StopsFull}
+use Rattle.tree_laws.specs.FileStops.{StopsAsTree, StopsFull}
 use Rattle.tree_laws.proofs.Groups.GroupLoop.{group_stops, group_is_full}
 
 pub stops_as_tree : StopsAsTree

@@ -1,7 +1,7 @@
 -- The steps of an edit let at most as many blocks wait as it costs.
-use Rattle.std.proofs.Common.{◌≡◌, ℕ, arith, Bool, true, false, List, length, map, ◌+◌, ◌*◌, ◌/◌, ◌≤◌, max}
+use Rattle.std.proofs.Common.{ℕ, arith, Bool, true, false, length, map, ◌+◌, ◌*◌, ◌/◌, ◌≤◌}
 use Rattle.std.specs.Prelude.{sum}
-use Rattle.adf_format.specs.Tree.{Tree, children_at, parent_of}
+use Rattle.adf_format.specs.Tree.{children_at, parent_of}
 use Rattle.adf_format.specs.Links.{link_text}
 use Rattle.adf_format.specs.Parts.{node_length}
 use Rattle.adf_format.specs.HeapRule.{chunk_length_for}
