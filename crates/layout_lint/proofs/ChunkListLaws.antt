@@ -1,22 +1,22 @@
 -- The chunks of a node, one after another.
-use Rattle.std.proofs.Common.{◌≡◌, ℕ, suc, ◌+◌, ◌-◌, ◌*◌, ◌<◌, ◌≤◌, List, ◌++◌, [], ◌∷◌, map, refl, sym, ◌∙◌, ap, arith, append_assoc, length-append, true, false, cond}
+use Rattle.std.proofs.Common.{◌≡◌, ℕ, suc, ◌+◌, ◌-◌, ◌*◌, ◌<◌, ◌≤◌, List, ◌++◌, [], ◌∷◌, map, refl, sym, ◌∙◌, ap, arith, zero-add, append_assoc, length-append, get_or, true, false, cond}
 use Rattle.std.specs.Prelude.{Option, Some, None, length, nat_lt}
 use Rattle.std.proofs.lemmas.Bool.Decides.{nat_tests}
+use Rattle.std.proofs.lemmas.List.{map-append, get_or-map}
+use Rattle.std.proofs.lemmas.List.FromFn.{map-range_with_len_more, get_or-map-range_with_len}
 use Rattle.std.proofs.lemmas.List.Elements.{All-push}
-use Rattle.adf_format.specs.Fields.{field}
-use Rattle.adf_format.specs.Pointer.{place_of}
-use Rattle.adf_format.proofs.FieldLaws.{inner_field}
 use Rattle.std.specs.List.{range_with_len}
 use Rattle.adf_format.specs.declared.types.Extent.{Extent}
 use Rattle.adf_format.specs.Tiles.{total_length}
 use Rattle.adf_format.specs.Checks.{Row, Fault, first_broken}
 use Rattle.adf_format.specs.FirstFault.{ChunkVisit, chunk_rows, chunk_length, payload_total, count_up}
+use Rattle.layout_lint.specs.declared.chunks.Listed.{Listed}
 use Rattle.layout_lint.specs.declared.verdict.Halt.{Halt}
 use Rattle.layout_lint.specs.declared.verdict.Halt.TheVariants as halt
 use Rattle.adf_format.specs.declared.types.ExtentKind.{ExtentKind}
 use Rattle.adf_format.specs.Placement.{extent}
 use Rattle.layout_lint.specs.Halts.{Breaks}
-use Rattle.layout_lint.specs.Chunks.{visit_of, listed_chunk, chunk_visit, data_extent, one_chunk_rows, AddsChunks, IsChunk}
+use Rattle.layout_lint.specs.Chunks.{visit_of, entry_visit, listed_chunks, AreListed, listed_chunk, chunk_visit, data_extent, one_chunk_rows, AddsChunks, IsChunk}
 use Rattle.layout_lint.proofs.RowSteps.{kept_then, breaks_first}
 
 -- the numbers from i on, where there are some
@@ -70,10 +70,7 @@ module _ (image : List ℕ) (end : ℕ) (f : ℕ → ChunkVisit) (i n : ℕ) (lt
       rest ∙ ap (λ vs. extents ++ map (data_extent image) vs) (from_here f i n lt) ∙ ap (λ x. extents ++ (x ∷ map (data_extent image) behind)) (sym is)
       ∙ sym (append_assoc extents (e ∷ []) (map (data_extent image) behind)) ∙ ap (λ xs. xs ++ map (data_extent image) behind) (sym added)
 
--- ---- a chunk as it is read
-
-pub more_than_one : (n : ℕ) → nat_lt 1 n ≡ true → 1 < n
-more_than_one n e = grind (arith, nat_tests)
+-- ---- a chunk as the table names it
 
 several : (n : ℕ) → nat_lt 1 n ≡ true → nat_lt n 2 ≡ false
 several n e = grind (arith, nat_tests)
@@ -81,16 +78,22 @@ several n e = grind (arith, nat_tests)
 one_or_none : (n : ℕ) → nat_lt 1 n ≡ false → nat_lt n 2 ≡ true
 one_or_none n e = grind (arith, nat_tests)
 
-pub chunk_read : (image : List ℕ) (c count i at p t : ℕ) (bytes : List ℕ) → nat_lt 1 count ≡ true → at ≡ c + 16 + 24 * i → bytes ≡ field image at 24 → p ≡ place_of (field bytes 0 12) → t ≡ place_of (field bytes 12 12)
-    → visit_of (record { place = p; listed = Some t }) ≡ chunk_visit image c count i
-chunk_read image c count i at p t bytes listed place is start tail =
-    let p' : p ≡ place_of (field image at 12) = start ∙ ap (λ b. place_of (field b 0 12)) is ∙ ap place_of (inner_field image at 24 0 12 (omega arith) ∙ ap (λ o. field image o 12) (at_start at)) in
-    let t' : t ≡ place_of (field image (at + 12) 12) = tail ∙ ap (λ b. place_of (field b 12 12)) is ∙ ap place_of (inner_field image at 24 12 12 (omega arith)) in
-    ap (λ (q : ℕ). visit_of (record { place = q; listed = Some t })) p' ∙ ap (λ (q : ℕ). visit_of (record { place = place_of (field image at 12); listed = Some q })) t'
-    ∙ ap (listed_chunk image) place ∙ ap (λ b. cond b (record { place = c; listed = None }) (listed_chunk image (c + 16 + 24 * i))) (sym (several count listed))
-  where
-    at_start : (at : ℕ) → at + 0 ≡ at
-    at_start at = omega arith
+pub more_than_one : (n : ℕ) → nat_lt 1 n ≡ true → 1 < n
+more_than_one n e = grind (arith, nat_tests)
+
+pub one_more_listed : (image : List ℕ) (c i : ℕ) (old new : List Listed) (l : Listed) → new ≡ old ++ l ∷ [] → entry_visit l ≡ listed_chunk image (c + 16 + 24 * i) → map entry_visit old ≡ listed_chunks image c i → map entry_visit new ≡ listed_chunks image c (i + 1)
+one_more_listed image c i old new l pushed is before =
+    ap (map entry_visit) pushed ∙ map-append entry_visit old (l ∷ []) ∙ ap (λ vs. vs ++ entry_visit l ∷ []) before ∙ ap (λ v. listed_chunks image c i ++ v ∷ []) is
+    ∙ sym (map-range_with_len_more (λ j. listed_chunk image (c + 16 + 24 * j)) 0 i i (zero-add i))
+
+-- the entry at a position is that of the image
+pub chunk_listed : (image : List ℕ) (c count i : ℕ) (list : List Listed) (d : Listed) → nat_lt 1 count ≡ true → i < count → length list ≡ count → AreListed image c count list
+    → visit_of (record { place = (get_or list i d).place; listed = Some (get_or list i d).tail }) ≡ chunk_visit image c count i
+chunk_listed image c count i list d listed within all are =
+    sym (get_or-map entry_visit list i d (entry_visit d) (omega (arith, within, all)))
+    ∙ ap (λ vs. get_or vs i (entry_visit d)) (are (more_than_one count listed))
+    ∙ get_or-map-range_with_len (λ j. listed_chunk image (c + 16 + 24 * j)) 0 count i i (entry_visit d) within (zero-add i)
+    ∙ ap (λ b. cond b (record { place = c; listed = None }) (listed_chunk image (c + 16 + 24 * i))) (sym (several count listed))
 
 pub chunk_alone : (image : List ℕ) (c count i : ℕ) → nat_lt 1 count ≡ false → visit_of (record { place = c; listed = None }) ≡ chunk_visit image c count i
 chunk_alone image c count i e = ap (λ b. cond b (record { place = c; listed = None }) (listed_chunk image (c + 16 + 24 * i))) (sym (one_or_none count e))

@@ -13,6 +13,7 @@ pub mod SetLaws
 pub mod ShapeLaws
 pub mod ChunkListLaws
 pub mod StackLaws
+pub mod GoingLaws
 pub mod SearchLaws
 pub mod VerdictLaws
 pub mod ChildrenLaws

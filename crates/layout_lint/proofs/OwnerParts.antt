@@ -3,15 +3,15 @@ use Rattle.std.proofs.Common.{◌≡◌, inl, inr, ℕ, zero, suc, refl, sym, �
 use Rattle.std.proofs.lemmas.List.{length-map}
 use Rattle.std.proofs.lemmas.List.Elements.{All-nil, All-append, All-from_recursion}
 use Rattle.std.proofs.lemmas.Option.{slice_get_within, slice_get-get_or}
-use Rattle.std.specs.Prelude.{Option, Some, None, IsSome, is_some, slice_get, slice_index_or, ◌==◌, ⊤}
-use Rattle.std.specs.List.{All, AllByRecursion, flat_map, list_any}
+use Rattle.std.specs.Prelude.{Option, Some, None, IsSome, is_some, slice_get, ◌==◌}
+use Rattle.std.specs.List.{All, AllByRecursion, list_any}
 use Rattle.adf_format.specs.declared.types.Extent.{Extent}
 use Rattle.adf_format.specs.declared.types.ExtentKind.{ExtentKind}
 use Rattle.adf_format.specs.Fields.{field}
 use Rattle.adf_format.specs.Parts.{SpellsChunk, node_length}
 use Rattle.adf_format.specs.Tiles.{total_length}
 use Rattle.adf_format.specs.Tree.{Tree, Node, next_serial, node_at, tree_order, renumbered_node, IsNumbered}
-use Rattle.adf_format.specs.Placement.{Placement, extent, NodeParts, TablePart, ChunkPart, parts_of, node_extents, extents_of, table_extents, chunk_table_extents, chunk_extents}
+use Rattle.adf_format.specs.Placement.{Placement, extent, NodeParts, TablePart, ChunkPart, parts_of, node_extents, table_extents, chunk_table_extents, chunk_extents}
 use Rattle.adf_format.specs.LaysOut.{LaysOut, HoldsNode}
 use Rattle.adf_format.specs.Checks.{first_broken}
 use Rattle.adf_format.specs.FirstFault.{Visit, found_extents, is_wide, end_in}
@@ -19,7 +19,6 @@ use Rattle.adf_format.specs.Verdict.{NodePlace, ListsNodes}
 use Rattle.adf_format.proofs.ClosureLaws.{IsIn}
 use Rattle.adf_format.proofs.LayoutLaws.{live_parts}
 use Rattle.adf_format.proofs.SameLayout.{end_recorded, wide_recorded}
-use Rattle.adf_format.proofs.WalkLaws.{total_length-append}
 use Rattle.adf_model.proofs.Basics.{same_Some, not_there}
 use Rattle.adf_model.proofs.Trees.Renumbered.{among_get, live_listed, at_pos, node_new, pos}
 use Rattle.adf_model.proofs.Walks.WalkRows.{Passed, walk_passes}
@@ -30,7 +29,6 @@ use Rattle.layout_laws.proofs.NodePassLaws.{rows_of_node}
 use Rattle.layout_laws.proofs.NodesStand.{Stands, AreStanding, nodes_stand, something}
 use Rattle.layout_laws.proofs.VisitExtents.{visit_parts}
 use Rattle.layout_lint.specs.Nodes.{extents_at}
-use Rattle.layout_lint.specs.Owners.{KeepRules}
 use Rattle.layout_lint.proofs.OwnerRows.{alone_kept}
 
 abbrev pub HasLength : Extent → Type 0

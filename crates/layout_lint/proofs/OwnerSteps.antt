@@ -1,5 +1,5 @@
 -- The steps of the code that collects the extents of the nodes.
-use Rattle.std.proofs.Common.{◌≡◌, ℕ, zero, suc, refl, sym, ◌∙◌, ap, subst, arith, List, [], ◌∷◌, ◌++◌, length, map, get_or, take, drop, append_assoc, append-nil, drop-cons, ◌+◌, ◌<◌, ◌≤◌, Bool, false}
+use Rattle.std.proofs.Common.{◌≡◌, ℕ, suc, sym, ◌∙◌, ap, subst, arith, List, [], ◌∷◌, ◌++◌, length, map, get_or, take, drop, append_assoc, append-nil, drop-cons, ◌+◌, ◌<◌, ◌≤◌, Bool, false}
 use Rattle.std.proofs.lemmas.List.{map-append, take_more, take_all}
 use Rattle.std.proofs.lemmas.List.Elements.{All-append, All-map}
 use Rattle.std.specs.Prelude.{Option, Some, None, IfSome}

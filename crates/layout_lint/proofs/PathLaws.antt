@@ -1,23 +1,20 @@
 -- From each node of a listed tree its parents lead up to the root.
-use Rattle.std.proofs.Common.{◌≡◌, ◌≢◌, ℕ, zero, suc, ◌+◌, ◌^◌, ◌≤◌, ◌<◌, Bool, true, false, List, [], ◌∷◌, ◌++◌, length, map, get_or, append-nil, append_assoc, refl, sym, ◌∙◌, ap, subst, arith, inl, inr}
+use Rattle.std.proofs.Common.{◌≡◌, ℕ, zero, suc, ◌≤◌, ◌<◌, List, [], ◌∷◌, ◌++◌, length, map, get_or, append-nil, append_assoc, refl, sym, ◌∙◌, ap, subst, arith, inl, inr}
 use Rattle.std.specs.Prelude.{Option, Some, None, IsSome, ◌==◌, slice_get, option_map}
 use Rattle.std.proofs.lemmas.List.{length-map, get_or_past}
-use Rattle.std.proofs.lemmas.Option.{slice_get_within, slice_get-get_or, slice_get-map, same_Some}
+use Rattle.std.proofs.lemmas.Option.{slice_get_within, slice_get-get_or, slice_get-map}
 use Rattle.std.proofs.lemmas.Bool.Decides.{eqb_tells}
-use Rattle.adf_format.specs.declared.types.Extent.{Extent}
-use Rattle.adf_format.specs.declared.types.Format.{Format}
-use Rattle.adf_format.specs.declared.types.ExtentKind.{ExtentKind}
-use Rattle.adf_format.specs.Parts.{node_length}
-use Rattle.adf_format.specs.Fields.{field, trimmed}
-use Rattle.adf_format.specs.Tree.{Tree, Node, IsTree, IsNumbered, IsAmong, is_among, node_at, name_at, name_of, children_at, lineage, climb, families, parent_from, tree_order, renumbered_node}
-use Rattle.adf_format.specs.Placement.{Placement, NodeParts, parts_of, extent}
-use Rattle.adf_format.specs.LaysOut.{LaysOut}
-use Rattle.adf_format.specs.Verdict.{NodePlace, ListsNodes, IsLaidOutAs}
+use Rattle.adf_format.specs.Fields.{trimmed}
+use Rattle.adf_format.specs.Tree.{Tree, Node, IsTree, IsNumbered, IsAmong, is_among, node_at, name_at, children_at, tree_order, renumbered_node}
+use Rattle.adf_format.specs.Placement.{Placement}
+use Rattle.adf_format.specs.Verdict.{NodePlace, ListsNodes}
 use Rattle.adf_model.specs.Spelling.{spelled}
 use Rattle.adf_model.proofs.Basics.{not_true, or_parts}
 use Rattle.adf_model.proofs.Trees.AncestorLemmas.{root_or_child, live_with_child}
 use Rattle.adf_model.proofs.Trees.SubtreeLemmas.{lineage_child}
 use Rattle.adf_model.proofs.Trees.Renumbered.{among_get, live_listed, live_within, node_new}
+use Rattle.adf_model.proofs.AncestorLemmas.{root_or_child}
+use Rattle.adf_model.proofs.Renumbered.{among_get, live_listed, node_new}
 use Rattle.layout_lint.specs.declared.verdict.NodePlace as code
 use Rattle.layout_lint.specs.Walks.{node_place}
 use Rattle.layout_lint.specs.Paths.{IsWay, to_root, to_child, IsWayUp, from_root, from_child, AreNames}

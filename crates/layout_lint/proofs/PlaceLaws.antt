@@ -1,5 +1,5 @@
 -- The nodes of a layout, each looked at by itself at its place, in any order of these.
-use Rattle.std.proofs.Common.{◌≡◌, ◌⊎◌, inl, inr, ℕ, zero, suc, refl, sym, ◌∙◌, ap, subst, arith, List, [], ◌∷◌, ◌++◌, length, map, zero-add, ◌+◌, ◌≤◌, ◌<◌, Bool}
+use Rattle.std.proofs.Common.{◌≡◌, inl, inr, ℕ, zero, suc, refl, sym, ◌∙◌, ap, subst, arith, List, [], ◌∷◌, ◌++◌, zero-add, ◌+◌, ◌≤◌, Bool}
 use Rattle.std.proofs.lemmas.List.Elements.{All-nil, All-append, Contains-append_left, Contains-append_right, Contains-append_cases}
 use Rattle.std.proofs.lemmas.List.Sorted.{IsPermutation-sym, Contains-permutation, sum_by-IsPermutation}
 use Rattle.std.proofs.lemmas.List.Sums.{sum_by-append}
@@ -9,14 +9,13 @@ use Rattle.std.specs.List.Sorted.{IsPermutation}
 use Rattle.adf_format.specs.declared.types.Extent.{Extent}
 use Rattle.adf_format.specs.Fields.{field, trimmed}
 use Rattle.adf_format.specs.Tiles.{cover, total_length}
-use Rattle.adf_format.specs.Tree.{Tree, Node, node_at, name_at, name_of}
+use Rattle.adf_format.specs.Tree.{Tree, node_at, name_at, name_of}
 use Rattle.adf_format.specs.Placement.{Placement, NodeParts, parts_of, node_extents, extents_of, live_extents}
 use Rattle.adf_format.specs.LaysOut.{LaysOut}
 use Rattle.adf_format.proofs.HeapSteps.{cover-append}
 use Rattle.adf_format.proofs.LayoutLaws.{live_parts}
 use Rattle.adf_format.proofs.WalkLaws.{total_length-append}
 use Rattle.adf_model.proofs.Basics.{same_Some}
-use Rattle.layout_laws.specs.FoundLayout.{parts_at}
 use Rattle.layout_laws.proofs.HeldParts.{parts_held, name_held}
 use Rattle.layout_laws.proofs.NodeRead.{name_again}
 use Rattle.layout_laws.proofs.NodesStand.{something}

@@ -1,11 +1,10 @@
 -- The shape of what the linter says: the nodes of a walk, one after another, and the gaps between their headers.
 use Rattle.std.proofs.Common.{◌≡◌, ◌⊎◌, inl, inr, ℕ, zero, suc, ◌+◌, ◌-◌, ◌^◌, ◌<◌, ◌≤◌, Bool, true, false, cond, List, [], ◌∷◌, ◌++◌, map, filter, length, refl, sym, ◌∙◌, ap, subst, arith}
 use Rattle.std.proofs.lemmas.Bool.Decides.{nat_tests, leb_tells}
-use Rattle.std.proofs.lemmas.List.{map-append, length-map, nil_from_length}
-use Rattle.std.proofs.lemmas.List.Elements.{All-append, All-pop, All-weaker, All-nil, All-push, filter-append}
-use Rattle.std.proofs.lemmas.Option.{same_Some}
-use Rattle.std.specs.Prelude.{Option, Some, slice_get, nat_le, nat_lt, ◌&&◌, ◌==◌}
-use Rattle.std.specs.Vec.{vec_len}
+use Rattle.std.proofs.lemmas.List.{map-append, length-map}
+use Rattle.std.proofs.lemmas.List.Elements.{All-weaker, All-nil, All-push, filter-append}
+use Rattle.std.proofs.lemmas.Option.{same_Some, slice_get_within}
+use Rattle.std.specs.Prelude.{Option, Some, slice_get, nat_le, nat_lt, ◌&&◌}
 use Rattle.std.specs.List.{All, AllByRecursion}
 use Rattle.adf_format.specs.declared.types.Extent.{Extent}
 use Rattle.adf_format.specs.declared.types.ExtentKind.{ExtentKind}
@@ -17,27 +16,28 @@ use Rattle.adf_format.specs.Verdict.{NodePlace}
 use Rattle.adf_format.proofs.HeapSteps.{cover-append}
 use Rattle.layout_laws.specs.NodePass.{Waiting}
 use Rattle.layout_lint.specs.Walks.{node_place, waiting_of}
-use Rattle.layout_lint.specs.Shapes.{IsTop, IsBelow, AreLinked, AreWithin, header_of, IsShaped, Adds, AddsNode, is_used, HoldsHeaders, AreSet, IsChildIn, AddsChildren, met_place, MayWait, IsRooted, IsSteady, IsWhole}
+use Rattle.layout_lint.specs.Shapes.{IsTop, IsBelow, AreLinked, AreWithin, header_of, IsShaped, Adds, AddsNode, is_used, HoldsHeaders, AreSet, IsChildIn, IsFamilyOf, met_place, MayFollow, IsRooted, IsSteady, IsWhole}
 use Rattle.layout_lint.specs.declared.node.Met.{Met}
 use Rattle.layout_lint.specs.declared.stack.Family.{Family}
+use Rattle.layout_lint.specs.declared.verdict.NodePlace as code
 use Rattle.layout_lint.specs.declared.walk.Search.{Search}
 use Rattle.layout_lint.specs.declared.walk.Found.{Found}
 
 -- ---- one more node
 
 -- an element of a list with one more is one of the list, or that one
-get_cases : {A : Type 0} (xs : List A) (y x : A) (k : ℕ) → slice_get (xs ++ y ∷ []) k ≡ Some x → (slice_get xs k ≡ Some x) ⊎ ((k ≡ length xs) × (y ≡ x))
+pub get_cases : {A : Type 0} (xs : List A) (y x : A) (k : ℕ) → slice_get (xs ++ y ∷ []) k ≡ Some x → (slice_get xs k ≡ Some x) ⊎ ((k ≡ length xs) × (y ≡ x))
 get_cases [] y x zero e = inr (refl, same_Some y x e)
 get_cases [] y x (suc k) e = cc
 get_cases (z ∷ zs) y x zero e = inl e
 get_cases (z ∷ zs) y x (suc k) e = elim (get_cases zs y x k e) [ inl h ↦ inl h | inr h ↦ inr (ap suc h.0, h.1) ]
 
-get_kept : {A : Type 0} (xs ys : List A) (x : A) (k : ℕ) → slice_get xs k ≡ Some x → slice_get (xs ++ ys) k ≡ Some x
+pub get_kept : {A : Type 0} (xs ys : List A) (x : A) (k : ℕ) → slice_get xs k ≡ Some x → slice_get (xs ++ ys) k ≡ Some x
 get_kept [] ys x k e = cc
 get_kept (z ∷ zs) ys x zero e = e
 get_kept (z ∷ zs) ys x (suc k) e = get_kept zs ys x k e
 
-get_last : {A : Type 0} (xs : List A) (y : A) → slice_get (xs ++ y ∷ []) (length xs) ≡ Some y
+pub get_last : {A : Type 0} (xs : List A) (y : A) → slice_get (xs ++ y ∷ []) (length xs) ≡ Some y
 get_last [] y = refl
 get_last (x ∷ xs) y = get_last xs y
 
@@ -50,12 +50,7 @@ below_later nodes more count later n le b = let before = b.before in record {
   near = b.near;
 }
 
--- a node may stand behind these: as the root, or below one of them
-MayFollow : List NodePlace → NodePlace → Type 0
-MayFollow nodes n = ((nodes ≡ []) × IsTop n) ⊎ ((0 < length nodes) × IsBelow nodes (length nodes) n)
-
 linked_then : (nodes : List NodePlace) (n : NodePlace) → AreLinked nodes → MayFollow nodes n → AreLinked (nodes ++ n ∷ [])
-unfolding MayFollow
 linked_then nodes n l may = record { root = root; others = others }
   where
     root : (m : NodePlace) → slice_get (nodes ++ n ∷ []) 0 ≡ Some m → IsTop m
@@ -123,90 +118,47 @@ held_then wide nodes n xs ys h a = λ b.
 
 -- ---- one turn of the walk
 
-module _ (wide : Bool) (end : ℕ) (nodes : List NodePlace) (extents : List Extent) (r : IsRooted wide end nodes extents) where
-  module _ (stack rest : List Met) (m : Met) (waits : MayWait nodes stack) (pop : stack ≡ rest ++ m ∷ []) where
-    follows : MayFollow nodes (met_place m)
-    unfolding MayFollow
-    follows = elim waits [
-      | inl w ↦ inl (w.0, subst (λ (x : Met). IsTop (met_place x)) (only rest (sym pop ∙ w.2)) w.3)
-      | inr w ↦ inr (w.0, (All-pop (λ (x : Met). IsBelow nodes (length nodes) (met_place x)) stack rest (Some m) pop w.1).1)
-    ]
-      where
-        only : (xs : List Met) {x : Met} → xs ++ m ∷ [] ≡ x ∷ [] → x ≡ m
-        only [] e = cc
-        only (y ∷ []) e = cc
-        only (y ∷ z ∷ zs) e = cc
+counts : (nodes : List NodePlace) (n : NodePlace) → length nodes < length (nodes ++ n ∷ [])
+counts [] n = omega arith
+counts (x ∷ nodes) n = let h = counts nodes n in omega (arith, h)
 
-    pub rooted_then : (after : List Extent) → (266 ≤ m.place) × (m.place + node_length wide ≤ end + 1) → AddsNode wide m.place extents after → IsRooted wide end (nodes ++ met_place m ∷ []) after
-    rooted_then after fits adds = record {
-      linked = linked_then nodes (met_place m) r.linked follows;
-      headers = within_then wide end nodes (met_place m) r.headers fits;
-      held = held_then wide nodes (met_place m) extents after r.held adds;
-    }
+rooted_then : (wide : Bool) (end : ℕ) (nodes : List NodePlace) (extents after : List Extent) (n : NodePlace) → IsRooted wide end nodes extents → MayFollow nodes n → (266 ≤ n.place) × (n.place + node_length wide ≤ end + 1)
+    → AddsNode wide n.place extents after → IsRooted wide end (nodes ++ n ∷ []) after
+rooted_then wide end nodes extents after n r follows fits adds = record {
+  linked = linked_then nodes n r.linked follows;
+  headers = within_then wide end nodes n r.headers fits;
+  held = held_then wide nodes n extents after r.held adds;
+}
 
-    still_wait : All (λ (x : Met). IsBelow (nodes ++ met_place m ∷ []) (length (nodes ++ met_place m ∷ [])) (met_place x)) rest
-    still_wait = elim waits [
-      | inl w ↦ subst (All (λ (x : Met). IsBelow (nodes ++ met_place m ∷ []) (length (nodes ++ met_place m ∷ [])) (met_place x))) (sym (none rest (sym pop ∙ w.2))) (All-nil _)
-      | inr w ↦ All-weaker (λ (x : Met). IsBelow nodes (length nodes) (met_place x)) _ (λ x b. below_later nodes (met_place m ∷ []) (length nodes) _ (met_place x) (longer nodes) b) rest
-          (All-pop (λ (x : Met). IsBelow nodes (length nodes) (met_place x)) stack rest (Some m) pop w.1).0
-    ]
-      where
-        none : (xs : List Met) {x : Met} → xs ++ m ∷ [] ≡ x ∷ [] → xs ≡ []
-        none [] e = refl
-        none (y ∷ []) e = cc
-        none (y ∷ z ∷ zs) e = cc
+-- the families are still those of the nodes, and so is that of the last one
+families_then : (nodes : List NodePlace) (n : NodePlace) (old new : List Family) (f : Family) → All (IsFamilyOf nodes) old → new ≡ old ++ f ∷ [] → f.number ≡ length nodes → n.depth ≡ f.depth → All (IsFamilyOf (nodes ++ n ∷ [])) new
+families_then nodes n old new f all pushed number depth = subst (All (IsFamilyOf (nodes ++ n ∷ []))) (sym pushed)
+    (All-push (IsFamilyOf (nodes ++ n ∷ [])) old f (All-weaker (IsFamilyOf nodes) (IsFamilyOf (nodes ++ n ∷ [])) (λ g h. record { parent = h.parent; stands = get_kept nodes (n ∷ []) h.parent g.number h.stands; depth = h.depth }) old all)
+    (record { parent = n; stands = subst (λ k. slice_get (nodes ++ n ∷ []) k ≡ Some n) (sym number) (get_last nodes n); depth = depth }))
 
-        longer : (ns : List NodePlace) → length ns ≤ length (ns ++ met_place m ∷ [])
-        longer [] = omega arith
-        longer (x ∷ ns) = let h = longer ns in omega (arith, h)
-
-    pub wait_then : (family : Family) (after : List Met) → family.number ≡ length nodes → family.depth ≡ m.depth → AddsChildren family rest after → MayWait (nodes ++ met_place m ∷ []) after
-    wait_then family after number depth a = inr (
-      some nodes,
-      subst (All (λ (x : Met). IsBelow (nodes ++ met_place m ∷ []) (length (nodes ++ met_place m ∷ [])) (met_place x))) (sym a.added)
-          (All-append (λ (x : Met). IsBelow (nodes ++ met_place m ∷ []) (length (nodes ++ met_place m ∷ [])) (met_place x)) rest a.more still_wait
-          (All-weaker (IsChildIn family) (λ (x : Met). IsBelow (nodes ++ met_place m ∷ []) (length (nodes ++ met_place m ∷ [])) (met_place x)) child a.more a.children)),
+-- a child of a family may be the next
+pub child_follows : (nodes : List NodePlace) (f : Family) (m : Met) → 0 < length nodes → IsFamilyOf nodes f → IsChildIn f m → MayFollow nodes (met_place m)
+child_follows nodes f m some is child =
+    let parent = child.parent in
+    let step = child.step in
+    let depth = is.depth in
+    inr (
+      some,
+      record {
+        parent = is.parent;
+        stands = subst (λ k. slice_get nodes k ≡ Some is.parent) (sym parent) is.stands;
+        before = (let within = slice_get_within nodes f.number is.parent is.stands in omega (arith, parent, within));
+        step = omega (arith, step, depth);
+        near = child.near;
+      },
     )
-      where
-        some : (ns : List NodePlace) → 0 < length (ns ++ met_place m ∷ [])
-        some [] = omega arith
-        some (x ∷ ns) = omega arith
-
-        counts : (ns : List NodePlace) → length ns < length (ns ++ met_place m ∷ [])
-        counts [] = omega arith
-        counts (x ∷ ns) = let h = counts ns in omega (arith, h)
-
-        child : (x : Met) → IsChildIn family x → IsBelow (nodes ++ met_place m ∷ []) (length (nodes ++ met_place m ∷ [])) (met_place x)
-        child x c = let parent = c.parent in let step = c.step in let longer = counts nodes in record {
-          parent = met_place m;
-          stands = subst (λ k. slice_get (nodes ++ met_place m ∷ []) k ≡ Some (met_place m)) (sym (parent ∙ number)) (get_last nodes (met_place m));
-          before = omega (arith, parent, number, longer);
-          step = omega (arith, step, depth);
-          near = c.near;
-        }
-
--- ---- children are put on the stack
 
 pub child_is : (family : Family) (m : Met) (place position : ℕ) (entry : Option (List ℕ)) → waiting_of m ≡ record { place = place; entry = entry; parent = family.number; position = position; depth = family.depth + 1 } → family.depth < 255 → IsChildIn family m
 child_is family m place position entry is shallow = let step = ap (λ (w : Waiting). w.depth) is in record { parent = ap (λ (w : Waiting). w.parent) is; step = step; near = omega (arith, step, shallow) }
 
-pub children_none : (family : Family) (stack : List Met) → AddsChildren family stack stack
-children_none family stack = record { more = []; added = none stack; children = All-nil _ }
-  where
-    none : (xs : List Met) → xs ≡ xs ++ []
-    none [] = refl
-    none (x ∷ xs) = ap (λ ys. x ∷ ys) (none xs)
-
-pub children_push : (family : Family) (old mid new : List Met) (m : Met) → AddsChildren family old mid → new ≡ mid ++ m ∷ [] → IsChildIn family m → AddsChildren family old new
-children_push family old mid new m a e is = record {
-  more = a.more ++ m ∷ [];
-  added = e ∙ ap (λ xs. xs ++ m ∷ []) a.added ∙ join old a.more;
-  children = All-push (IsChildIn family) a.more m a.children is;
-}
-  where
-    join : (xs ys : List Met) → (xs ++ ys) ++ m ∷ [] ≡ xs ++ (ys ++ m ∷ [])
-    join [] ys = refl
-    join (x ∷ xs) ys = ap (λ zs. x ∷ zs) (join xs ys)
+-- no node lies deeper than 255
+pub near_enough : (nodes : List NodePlace) (n : NodePlace) → MayFollow nodes n → n.depth ≤ 255
+near_enough nodes n may = elim may [ inl t ↦ (let top = t.1.depth in omega (arith, top)) | inr t ↦ t.1.near ]
 
 -- ---- the extents of a node
 
@@ -222,12 +174,11 @@ rooted_first wide end nodes extents none head = subst (λ (es : List Extent). Is
   held = λ b. omega arith;
 }))
 
-pub root_waits : (nodes : List NodePlace) (stack : List Met) (m : Met) → nodes ≡ [] → stack ≡ m ∷ [] → IsTop (met_place m) → MayWait nodes stack
-root_waits nodes stack m none alone is = inl (none, m, alone, is)
-
--- none wait: some were looked at
-pub some_found : (nodes : List NodePlace) (stack : List Met) → MayWait nodes stack → stack ≡ [] → 0 < length nodes
-some_found nodes stack waits none = elim waits [ inl w ↦ (let e = sym none ∙ w.2 in cc) | inr w ↦ w.0 ]
+pub steady_first : (wide : Bool) (end : ℕ) (s : Search) → s.nodes.items ≡ [] → s.families.items ≡ [] → s.extents.items ≡ head_extents → IsSteady wide end s
+steady_first wide end s nodes families head = record {
+  rooted = rooted_first wide end (map node_place s.nodes.items) s.extents.items (ap (map node_place) nodes) head;
+  families = subst (All (IsFamilyOf (map node_place s.nodes.items))) (sym families) (All-nil (IsFamilyOf (map node_place s.nodes.items)));
+}
 
 -- ---- the whole
 
@@ -316,28 +267,25 @@ shaped wide end nodes found extents gaps some high r adds s = record {
 -- ---- a walk as the code makes it
 
 -- one more node was looked at, and its children wait
-pub steady_then : (wide : Bool) (end : ℕ) (s t : Search) (rest after : List Met) (found : List Extent) (m : Met) (family : Family) → IsSteady wide end s → s.stack.items ≡ rest ++ m ∷ []
-    → map node_place t.nodes.items ≡ map node_place s.nodes.items ++ met_place m ∷ [] → t.extents.items ≡ found → t.stack.items ≡ after → (266 ≤ m.place) × (m.place + node_length wide ≤ end + 1)
-    → AddsNode wide m.place s.extents.items found → family.number ≡ length s.nodes.items → family.depth ≡ m.depth → AddsChildren family rest after → IsSteady wide end t
-steady_then wide end s t rest after found m family steady pop nodes extents stack fits adds number depth children = record {
+pub steady_then : (wide : Bool) (end : ℕ) (s t : Search) (found : List Extent) (families : List Family) (m : Met) (f : Family) → IsSteady wide end s → MayFollow (map node_place s.nodes.items) (met_place m)
+    → map node_place t.nodes.items ≡ map node_place s.nodes.items ++ met_place m ∷ [] → t.extents.items ≡ found → t.families.items ≡ families → families ≡ s.families.items ++ f ∷ []
+    → (266 ≤ m.place) × (m.place + node_length wide ≤ end + 1) → AddsNode wide m.place s.extents.items found → f.number ≡ length s.nodes.items → f.depth ≡ m.depth → IsSteady wide end t
+steady_then wide end s t found families m f steady follows nodes extents same pushed fits adds number depth = record {
   rooted = subst (λ (es : List Extent). IsRooted wide end (map node_place t.nodes.items) es) (sym extents) (subst (λ (ns : List NodePlace). IsRooted wide end ns found) (sym nodes)
-      (rooted_then wide end (map node_place s.nodes.items) s.extents.items steady.rooted s.stack.items rest m steady.waits pop found fits adds));
-  waits = subst (λ (ms : List Met). MayWait (map node_place t.nodes.items) ms) (sym stack) (subst (λ (ns : List NodePlace). MayWait ns after) (sym nodes)
-      (wait_then wide end (map node_place s.nodes.items) s.extents.items steady.rooted s.stack.items rest m steady.waits pop family after (number ∙ sym (length-map s.nodes.items node_place)) depth children));
+      (rooted_then wide end (map node_place s.nodes.items) s.extents.items found (met_place m) steady.rooted follows fits adds));
+  families = subst (λ (fs : List Family). All (IsFamilyOf (map node_place t.nodes.items)) fs) (sym same) (subst (λ (ns : List NodePlace). All (IsFamilyOf ns) families) (sym nodes)
+      (families_then (map node_place s.nodes.items) (met_place m) s.families.items families f steady.families pushed (number ∙ sym (length-map s.nodes.items node_place)) (sym depth)));
 }
 
+pub some_then : (nodes : List code.NodePlace) (old : List NodePlace) (n : NodePlace) → map node_place nodes ≡ old ++ n ∷ [] → 0 < length nodes
+some_then nodes old n is = let longer = counts old n in let same = ap length is in let count = length-map nodes node_place in omega (arith, longer, same, count)
+
 -- none waits any more
-pub whole_found : (wide : Bool) (end : ℕ) (s : Search) (f : Found) (empty : Bool) → IsSteady wide end s → empty ≡ (vec_len s.stack == 0) → empty ≡ true → f.nodes ≡ s.nodes → f.extents ≡ s.extents → IsWhole wide end f
-whole_found wide end s f empty steady is emptied nodes extents =
-    let none : s.stack.items ≡ [] = nil_from_length s.stack.items (sym s.stack.ok.0 ∙ none_left (vec_len s.stack) empty is emptied) in
-    let some = some_found (map node_place s.nodes.items) s.stack.items steady.waits none in
-    record {
-      rooted = subst (λ ns. IsRooted wide end (map node_place ns.items) f.extents.items) (sym nodes) (subst (λ es. IsRooted wide end (map node_place s.nodes.items) es.items) (sym extents) steady.rooted);
-      some = let count = length-map s.nodes.items node_place in let same = ap (λ ns. length ns.items) nodes in omega (arith, some, count, same);
-    }
-  where
-    none_left : (n : ℕ) (empty : Bool) → empty ≡ (n == 0) → empty ≡ true → n ≡ 0
-    none_left n empty is e = grind (arith, nat_tests)
+pub whole_found : (wide : Bool) (end : ℕ) (s : Search) (f : Found) → IsSteady wide end s → 0 < length s.nodes.items → f.nodes ≡ s.nodes → f.extents ≡ s.extents → IsWhole wide end f
+whole_found wide end s f steady some nodes extents = record {
+  rooted = subst (λ ns. IsRooted wide end (map node_place ns.items) f.extents.items) (sym nodes) (subst (λ es. IsRooted wide end (map node_place s.nodes.items) es.items) (sym extents) steady.rooted);
+  some = let same = ap (λ ns. length ns.items) nodes in omega (arith, some, same);
+}
 
 -- what is said of a file with these nodes and gaps
 pub shape_said : (wide : Bool) (end : ℕ) (found : Found) (extents gaps : List Extent) → IsWhole wide end found → end < 2 ^ 44 → Adds found.extents.items extents → AreSet extents end gaps → IsShaped (map node_place found.nodes.items) gaps end wide

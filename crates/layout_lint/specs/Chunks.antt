@@ -1,5 +1,5 @@
 -- Chunks of data, one by one.
-use Rattle.std.specs.Prelude.{◌≡◌, ◌≤◌, ◌++◌, map, length, ℕ, ◌+◌, ◌*◌, Bool, cond, ◌&&◌, nat_le, nat_lt, List, [], ◌∷◌, Option, Some, None, codes}
+use Rattle.std.specs.Prelude.{◌≡◌, ◌≤◌, ◌<◌, ◌^◌, ◌++◌, map, length, ℕ, ◌+◌, ◌*◌, Bool, cond, ◌&&◌, nat_le, nat_lt, List, [], ◌∷◌, Option, Some, None, codes}
 use Rattle.adf_format.specs.Pointer.{is_place, place_of}
 use Rattle.adf_format.specs.Fields.{field, holds}
 use Rattle.std.specs.List.{All}
@@ -10,10 +10,15 @@ use Rattle.adf_format.specs.Placement.{extent}
 use Rattle.adf_format.specs.Checks.{Row, row}
 use Rattle.adf_format.specs.FirstFault.{ChunkVisit, fits, has_room, agrees, chunk_length, count_up}
 use Rattle.layout_lint.specs.declared.chunks.Chunk.{Chunk}
+use Rattle.layout_lint.specs.declared.chunks.Listed.{Listed}
 
 -- the chunk as the definitions have it
 abbrev pub visit_of : Chunk → ChunkVisit
 visit_of c = record { place = c.place; listed = c.listed }
+
+-- the chunk of an entry of a table
+abbrev pub entry_visit : Listed → ChunkVisit
+entry_visit l = record { place = l.place; listed = Some l.tail }
 
 -- the rule of an entry of a table of chunks
 abbrev pub chunk_entry_row : List ℕ → ℕ → Row
@@ -22,6 +27,23 @@ chunk_entry_row image at = row 25 at (is_place (field image at 12) && is_place (
 -- what such an entry says
 abbrev pub listed_chunk : List ℕ → ℕ → ChunkVisit
 listed_chunk image at = record { place = place_of (field image at 12); listed = Some (place_of (field image (at + 12) 12)) }
+
+-- what so many of them say
+abbrev pub listed_chunks : List ℕ → ℕ → ℕ → List ChunkVisit
+listed_chunks image c count = map (λ i. listed_chunk image (c + 16 + 24 * i)) (count_up count)
+
+-- these are the entries of the table of so many chunks, if there is one
+abbrev pub AreListed : List ℕ → ℕ → ℕ → List Listed → Type 0
+AreListed image c count list = 1 < count → map entry_visit list ≡ listed_chunks image c count
+
+-- an entry names a place in reach
+abbrev pub IsNear : Listed → Type 0
+IsNear l = l.place < 2 ^ 44
+
+-- the table of so many chunks, if there is one, has as many entries
+pub record IsList (count : ℕ) (list : List Listed) : Type 0 where
+  pub all : 1 < count → length list ≡ count
+  pub near : All IsNear list
 
 -- what the bytes of such an entry say, if both are places
 abbrev pub chunk_said : List ℕ → Option ChunkVisit

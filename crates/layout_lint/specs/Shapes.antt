@@ -1,5 +1,5 @@
 -- The shape of what the linter says of a sound file: it holds of any file, whether bytes are told or not.
-use Rattle.std.specs.Prelude.{◌≡◌, ◌⊎◌, ℕ, ◌+◌, ◌<◌, ◌≤◌, ◌^◌, Bool, not, List, [], ◌∷◌, ◌++◌, map, filter, length, slice_get, Some, ⊤}
+use Rattle.std.specs.Prelude.{◌≡◌, ◌⊎◌, ℕ, ◌+◌, ◌*◌, ◌<◌, ◌≤◌, ◌^◌, Bool, not, List, [], ◌∷◌, ◌++◌, map, filter, length, slice_get, Some, ⊤}
 use Rattle.std.specs.List.{All, AllByRecursion}
 use Rattle.adf_format.specs.declared.types.Extent.{Extent}
 use Rattle.adf_format.specs.declared.types.ExtentKind.{ExtentKind}
@@ -9,7 +9,8 @@ use Rattle.adf_format.specs.Parts.{node_length}
 use Rattle.adf_format.specs.Placement.{extent, head_extents}
 use Rattle.adf_format.specs.Verdict.{NodePlace}
 use Rattle.layout_laws.specs.NodePass.{named_node}
-use Rattle.layout_lint.specs.Walks.{waiting_of, node_place}
+use Rattle.layout_lint.specs.Gaps.{IsSolid}
+use Rattle.layout_lint.specs.Walks.{waiting_of, node_place, IsOpen, AreStepped, left_in}
 use Rattle.layout_lint.specs.declared.node.Met.{Met}
 use Rattle.layout_lint.specs.declared.stack.Family.{Family}
 use Rattle.layout_lint.specs.declared.walk.Search.{Search}
@@ -97,18 +98,18 @@ pub record IsChildIn (family : Family) (m : Met) : Type 0 where
   pub step : m.depth ≡ family.depth + 1
   pub near : m.depth ≤ 255
 
--- some children of a family are put on the stack
-pub record AddsChildren (family : Family) (old new : List Met) : Type 0 where
-  pub more : List Met
-  pub added : new ≡ old ++ more
-  pub children : All (IsChildIn family) more
-
 abbrev pub met_place : Met → NodePlace
 met_place m = named_node (waiting_of m)
 
--- the root waits alone where no node was looked at, and else nodes below those that were
-abbrev pub MayWait : List NodePlace → List Met → Type 0
-MayWait nodes stack = ((nodes ≡ []) × (m : Met) × (stack ≡ m ∷ []) × IsTop (met_place m)) ⊎ ((0 < length nodes) × All (λ (m : Met). IsBelow nodes (length nodes) (met_place m)) stack)
+-- a family is that of a node that was looked at
+pub record IsFamilyOf (nodes : List NodePlace) (f : Family) : Type 0 where
+  pub parent : NodePlace
+  pub stands : slice_get nodes f.number ≡ Some parent
+  pub depth : parent.depth ≡ f.depth
+
+-- a node may be the next: the root where none was looked at, and else one below a node that was
+abbrev pub MayFollow : List NodePlace → NodePlace → Type 0
+MayFollow nodes n = ((nodes ≡ []) × IsTop n) ⊎ ((0 < length nodes) × IsBelow nodes (length nodes) n)
 
 -- The nodes that were looked at are linked, their headers lie within the file, and the extents hold these.
 pub record IsRooted (wide : Bool) (end : ℕ) (nodes : List NodePlace) (extents : List Extent) : Type 0 where
@@ -116,10 +117,22 @@ pub record IsRooted (wide : Bool) (end : ℕ) (nodes : List NodePlace) (extents 
   pub headers : AreWithin wide end nodes
   pub held : HoldsHeaders wide nodes extents
 
--- so it is where a walk stands, and the nodes that wait are below these
+-- so it is where a walk stands, and the families that wait are those of these nodes
 pub record IsSteady (wide : Bool) (end : ℕ) (search : Search) : Type 0 where
   pub rooted : IsRooted wide end (map node_place search.nodes.items) search.extents.items
-  pub waits : MayWait (map node_place search.nodes.items) search.stack.items
+  pub families : All (IsFamilyOf (map node_place search.nodes.items)) search.families.items
+
+-- What holds between two turns of a walk: the children that wait can be read, there are at most 256 families, and two bytes of
+-- those found are left for each child.
+pub record IsGoing (wide : Bool) (end : ℕ) (search : Search) : Type 0 where
+  pub solid : All (IsSolid end) search.extents.items
+  pub readable : All (IsOpen end) search.families.items
+  pub stepped : AreStepped search.families.items
+  pub few : length search.families.items ≤ 256
+  pub steady : IsSteady wide end search
+  pub left : 2 * left_in search.families.items ≤ search.used
+  pub room : search.used ≤ end + 1
+  pub some : 0 < length search.nodes.items
 
 -- and so where it has ended
 pub record IsWhole (wide : Bool) (end : ℕ) (found : Found) : Type 0 where

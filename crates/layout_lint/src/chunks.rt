@@ -1,21 +1,23 @@
 //! The chunks of a node's data, and the table of them.
 
-ghost use Rattle.std.specs.Prelude.{◌≡◌, ◌^◌, ◌+◌, ◌-◌, ◌*◌, ◌≤◌, ◌<◌, ◌==◌, ◌++◌, [], ◌∷◌, ◌++◌, length, map, nat_lt, Some, None, IfOk, IfErr, IfSome, OnOk, option_map};
+ghost use Rattle.std.specs.Prelude.{◌≡◌, ◌^◌, ◌+◌, ◌-◌, ◌*◌, ◌≤◌, ◌<◌, ◌==◌, ◌++◌, [], ◌∷◌, ◌++◌, ℕ, List, length, map, nat_lt, Some, None, IfOk, IfErr, IfSome, OnOk, option_map};
+ghost use Rattle.std.specs.List.{All};
 ghost use Rattle.cg_io.specs.Blocks.{ReadsFew};
 ghost use Rattle.adf_format.specs.Parts.{chunk_table_length};
 ghost use Rattle.adf_format.specs.Fields.{field};
 ghost use Rattle.adf_format.specs.FirstFault.{chunk_table_rows, chunk_rows, chunk_length, payload_total, count_up, agrees, rows_unless};
 ghost use Rattle.adf_format.specs.Tiles.{total_length};
 ghost use Rattle.layout_lint.specs.Told.{Told, IsReady};
-ghost use Rattle.layout_lint.specs.Halts.{Finds, HasCount, MayLackMemory, IsNoFault, IsWant};
-ghost use Rattle.layout_lint.specs.Chunks.{visit_of, chunk_said, chunk_entry_row, listed_chunk, chunk_visit, one_chunk_rows, tail_said, chunk_list, data_extent, list_extents, AddsChunks};
+ghost use Rattle.layout_lint.specs.Halts.{Finds, HasCount, MayLackMemory, IsWant};
+ghost use Rattle.layout_lint.specs.Chunks.{visit_of, entry_visit, listed_chunks, AreListed, IsList, IsNear, chunk_said, chunk_entry_row, listed_chunk, chunk_visit, one_chunk_rows, tail_said, chunk_list, data_extent, list_extents, AddsChunks};
 
-use crate::marks::{Mark, look_at_start, look_at_tail, place_in, place_or_zero, points_to};
+use crate::marks::{Mark, look_at_start, look_at_tail, place_in, points_to};
 use crate::pages::{Page, field_at};
 use crate::verdict::{Halt, Span, halt_at};
 use adf_chunks::Part;
 use adf_format::{Extent, ExtentKind};
 use cg_io::Blocks;
+use std::alloc::Global;
 
 /// The chunks of a node: their number, and the place of the one chunk or of the table of several.
 #[derive(Clone, Copy, Drop)]
@@ -56,6 +58,20 @@ impl Chunks {
     }
 }
 
+/// An entry of a table: where a chunk stands, and its end tag.
+#[derive(Clone, Copy, Drop)]
+pub struct Listed {
+    pub place: u64,
+    pub tail: u64,
+}
+
+/// The bytes that are used with the table, and its entries; none where there is no table.
+#[derive(Drop)]
+pub struct Framed {
+    pub used: u64,
+    pub list: Vec<Listed>,
+}
+
 /// A chunk as its node or the table names it, with the end tag that the table gives.
 #[derive(Clone, Copy, Drop)]
 pub struct Chunk {
@@ -63,20 +79,17 @@ pub struct Chunk {
     pub listed: Option<u64>,
 }
 
-// The chunk in an entry of a table, where both pointers name places.
-fn chunk_in(bytes: &[u8; 24]) -> Option<Chunk>
-    ensures said { option_map visit_of result ≡ chunk_said bytes.now }
-    ensures bound { IfSome result (λ chunk. chunk.place < 2 ^ 44) }
+// The entry of a table, where both pointers name places.
+fn listed_in(bytes: &[u8; 24]) -> Option<Listed>
+    ensures said { option_map entry_visit result ≡ chunk_said bytes.now }
+    ensures bound { IfSome result IsNear }
 {
     let place = match place_in(bytes, 0) {
         Some(place) => place,
         None => return None,
     };
     match place_in(bytes, 12) {
-        Some(tail) => Some(Chunk {
-            place,
-            listed: Some(tail),
-        }),
+        Some(tail) => Some(Listed { place, tail }),
         None => None,
     }
 }
@@ -86,13 +99,13 @@ pub fn look_at_chunk_entry<B: Blocks>(
     blocks: &mut B,
     page: &mut Page,
     at: u64,
-) -> Result<Chunk, Halt>
+) -> Result<Listed, Halt>
     requires ready { IsReady (B.is_sound blocks.old) (B.state blocks.old).held page.old }
     requires within { at + 24 ≤ 2 ^ 44 }
     ensures ready { IsReady (B.is_sound blocks.new) (B.state blocks.new).held page.new }
     ensures rows { Told (B.state blocks.old).held (λ image. at + 24 ≤ length image → Finds (chunk_entry_row image at ∷ []) result) }
-    ensures says { IfOk result (λ chunk. Told (B.state blocks.old).held (λ image. at + 24 ≤ length image → visit_of chunk ≡ listed_chunk image at)) }
-    ensures bound { IfOk result (λ chunk. chunk.place < 2 ^ 44) }
+    ensures says { IfOk result (λ listed. Told (B.state blocks.old).held (λ image. at + 24 ≤ length image → entry_visit listed ≡ listed_chunk image at)) }
+    ensures bound { IfOk result IsNear }
     ensures effect { ReadsFew 2 (B.state blocks.old) (B.state blocks.new) }
     ensures cause { IfErr result (HasCount (B.state blocks.old).faults (B.state blocks.new).faults) }
 {
@@ -100,53 +113,66 @@ pub fn look_at_chunk_entry<B: Blocks>(
         Ok(bytes) => bytes,
         Err(halt) => return Err(halt),
     };
-    match chunk_in(&bytes) {
-        Some(chunk) => Ok(chunk),
+    match listed_in(&bytes) {
+        Some(listed) => Ok(listed),
         None => halt_at(25, at),
     }
 }
 
-// Looks at the entries of a table of chunks: rule 25.
+// Reads the entries of a table of chunks: rule 25.
 fn look_at_chunk_entries<B: Blocks>(
+    alloc: Global,
     blocks: &mut B,
     page: &mut Page,
     chunks: Chunks,
-) -> Result<(), Halt>
+) -> Result<Vec<Listed>, Halt>
     requires ready { IsReady (B.is_sound blocks.old) (B.state blocks.old).held page.old }
     requires within { chunks.place + 16 + 24 * chunks.count ≤ 2 ^ 44 }
     ensures ready { IsReady (B.is_sound blocks.new) (B.state blocks.new).held page.new }
     ensures rows { Told (B.state blocks.old).held (λ image. chunks.place + 16 + 24 * chunks.count ≤ length image
         → Finds (map (λ i. chunk_entry_row image (chunks.place + 16 + 24 * i)) (count_up chunks.count)) result) }
+    ensures says { IfOk result (λ list. Told (B.state blocks.old).held (λ image. chunks.place + 16 + 24 * chunks.count ≤ length image → map entry_visit list.items ≡ listed_chunks image chunks.place chunks.count)) }
+    ensures count { IfOk result (λ list. length list.items ≡ chunks.count) }
+    ensures near { IfOk result (λ list. All IsNear list.items) }
     ensures effect { ReadsFew (2 * chunks.count) (B.state blocks.old) (B.state blocks.new) }
-    ensures cause { IfErr result (HasCount (B.state blocks.old).faults (B.state blocks.new).faults) }
+    ensures cause { IfErr result (MayLackMemory (B.state blocks.old).faults (B.state blocks.new).faults) }
 {
+    let mut list = Vec::new(alloc);
     for position in 0..chunks.count {
-        match look_at_chunk_entry(blocks, page, chunks.entry(position)) {
-            Ok(_) => {}
+        let listed = match look_at_chunk_entry(blocks, page, chunks.entry(position)) {
+            Ok(listed) => listed,
             Err(halt) => return Err(halt),
+        };
+        match list.push(listed) {
+            Ok(()) => {}
+            Err(_) => return Err(Halt::Memory),
         }
     }
-    Ok(())
+    Ok(list)
 }
 
-/// Looks at the table of chunks: rules 25 and 14.
+/// Reads the table of chunks: rules 25 and 14.
 pub fn look_at_chunk_table<B: Blocks>(
+    alloc: Global,
     blocks: &mut B,
     page: &mut Page,
     span: Span,
     used: u64,
     chunks: Chunks,
-) -> Result<(), Halt>
+) -> Result<Vec<Listed>, Halt>
     requires ready { IsReady (B.is_sound blocks.old) (B.state blocks.old).held page.old }
     requires end { span.end < 2 ^ 44 }
     requires place { chunks.place < 2 ^ 44 }
     ensures ready { IsReady (B.is_sound blocks.new) (B.state blocks.new).held page.new }
     ensures rows { Told (B.state blocks.old).held (λ image. span.end < length image → Finds (chunk_table_rows image span.end used chunks.place chunks.count) result) }
+    ensures says { IfOk result (λ list. Told (B.state blocks.old).held (λ image. span.end < length image → map entry_visit list.items ≡ listed_chunks image chunks.place chunks.count)) }
+    ensures count { IfOk result (λ list. length list.items ≡ chunks.count) }
+    ensures near { IfOk result (λ list. All IsNear list.items) }
     ensures fits { OnOk result ((266 ≤ chunks.place) × (chunks.place + chunk_table_length chunks.count ≤ span.end + 1)) }
     ensures room { OnOk result (used + chunk_table_length chunks.count ≤ span.end + 1) }
     ensures effect { ReadsFew (2 * chunks.count + 4) (B.state blocks.old) (B.state blocks.new) }
     ensures short { ReadsFew (span.end + 5) (B.state blocks.old) (B.state blocks.new) }
-    ensures cause { IfErr result (HasCount (B.state blocks.old).faults (B.state blocks.new).faults) }
+    ensures cause { IfErr result (MayLackMemory (B.state blocks.old).faults (B.state blocks.new).faults) }
 {
     let length = chunks.table_length();
     let tail = chunks.tail();
@@ -163,10 +189,10 @@ pub fn look_at_chunk_table<B: Blocks>(
     if !points_to(&head, 4, tail) {
         return halt_at(25, chunks.place + 4);
     }
-    match look_at_chunk_entries(blocks, page, chunks) {
-        Ok(()) => {}
+    let list = match look_at_chunk_entries(alloc, blocks, page, chunks) {
+        Ok(list) => list,
         Err(halt) => return Err(halt),
-    }
+    };
     match look_at_tail(blocks, page, mark, tail) {
         Ok(()) => {}
         Err(halt) => return Err(halt),
@@ -174,79 +200,74 @@ pub fn look_at_chunk_table<B: Blocks>(
     if !span.has_room(used, length) {
         return halt_at(14, chunks.place);
     }
-    Ok(())
+    Ok(list)
 }
 
-/// Looks at the table of chunks, if there is one, and adds it to the extents: rules 25 and 14. It says
-/// how many bytes are used with it.
+/// Reads the table of chunks, if there is one, and adds it to the extents: rules 25 and 14.
 pub fn look_at_listing<B: Blocks>(
+    alloc: Global,
     blocks: &mut B,
     page: &mut Page,
     span: Span,
     used: u64,
     chunks: Chunks,
     extents: &mut Vec<Extent>,
-) -> Result<u64, Halt>
+) -> Result<Framed, Halt>
     requires ready { IsReady (B.is_sound blocks.old) (B.state blocks.old).held page.old }
     requires end { span.end < 2 ^ 44 }
     requires used { used ≤ span.end + 1 }
     requires place { chunks.place < 2 ^ 44 }
     ensures ready { IsReady (B.is_sound blocks.new) (B.state blocks.new).held page.new }
     ensures rows { Told (B.state blocks.old).held (λ image. span.end < length image → Finds (rows_unless (nat_lt chunks.count 2) (chunk_table_rows image span.end used chunks.place chunks.count)) result) }
-    ensures used { IfOk result (λ n. n ≡ used + total_length (list_extents chunks.place chunks.count)) }
+    ensures used { IfOk result (λ framed. framed.used ≡ used + total_length (list_extents chunks.place chunks.count)) }
     ensures extents { OnOk result (extents.new.items ≡ extents.old.items ++ list_extents chunks.place chunks.count) }
     ensures fits { OnOk result (1 < chunks.count → chunks.place + chunk_table_length chunks.count ≤ span.end + 1) }
-    ensures room { IfOk result (λ n. n ≤ span.end + 1) }
-    ensures few { IfOk result (λ n. ReadsFew (n - used) (B.state blocks.old) (B.state blocks.new)) }
+    ensures listed { IfOk result (λ framed. Told (B.state blocks.old).held (λ image. span.end < length image → AreListed image chunks.place chunks.count framed.list.items)) }
+    ensures list { IfOk result (λ framed. IsList chunks.count framed.list.items) }
+    ensures room { IfOk result (λ framed. framed.used ≤ span.end + 1) }
+    ensures few { IfOk result (λ framed. ReadsFew (framed.used - used) (B.state blocks.old) (B.state blocks.new)) }
     ensures short { ReadsFew (span.end + 5) (B.state blocks.old) (B.state blocks.new) }
     ensures cause { IfErr result (MayLackMemory (B.state blocks.old).faults (B.state blocks.new).faults) }
 {
     if !chunks.are_listed() {
-        return Ok(used);
+        return Ok(Framed {
+            used,
+            list: Vec::new(alloc),
+        });
     }
-    match look_at_chunk_table(blocks, page, span, used, chunks) {
-        Ok(()) => {}
+    let list = match look_at_chunk_table(alloc, blocks, page, span, used, chunks) {
+        Ok(list) => list,
         Err(halt) => return Err(halt),
-    }
+    };
     let length = chunks.table_length();
     match add_extent(extents, ExtentKind::ChunkTable, chunks.place, length) {
-        Ok(()) => Ok(used + length),
+        Ok(()) => Ok(Framed {
+            used: used + length,
+            list,
+        }),
         Err(halt) => Err(halt),
     }
 }
 
-/// The chunk at a position, where the table was looked at.
-pub fn chunk_at<B: Blocks>(
-    blocks: &mut B,
-    page: &mut Page,
-    chunks: Chunks,
-    position: u16,
-) -> Result<Chunk, Halt>
-    requires ready { IsReady (B.is_sound blocks.old) (B.state blocks.old).held page.old }
+// The chunk at a position.
+fn chunk_at(chunks: Chunks, list: &[Listed], position: u16) -> Chunk
     requires place { chunks.place < 2 ^ 44 }
-    requires listed { 1 < chunks.count → chunks.place + 16 + 24 * position + 24 ≤ 2 ^ 44 }
-    ensures ready { IsReady (B.is_sound blocks.new) (B.state blocks.new).held page.new }
-    ensures says { IfOk result (λ chunk. Told (B.state blocks.old).held (λ image. (1 < chunks.count → chunks.place + 16 + 24 * position + 24 ≤ length image)
-        → visit_of chunk ≡ chunk_visit image chunks.place chunks.count position)) }
-    ensures bound { IfOk result (λ chunk. chunk.place < 2 ^ 44) }
-    ensures no_fault { IfErr result IsNoFault }
-    ensures effect { ReadsFew 2 (B.state blocks.old) (B.state blocks.new) }
-    ensures cause { IfErr result (HasCount (B.state blocks.old).faults (B.state blocks.new).faults) }
+    requires within { position < chunks.count }
+    requires list { IsList chunks.count list.now }
+    ensures says { (image : List ℕ) → AreListed image chunks.place chunks.count list.now → visit_of result ≡ chunk_visit image chunks.place chunks.count position }
+    ensures bound { result.place < 2 ^ 44 }
 {
     if !chunks.are_listed() {
-        return Ok(Chunk {
+        return Chunk {
             place: chunks.place,
             listed: None,
-        });
+        };
     }
-    let bytes = match field_at::<B, 24>(blocks, page, chunks.entry(position)) {
-        Ok(bytes) => bytes,
-        Err(halt) => return Err(halt),
-    };
-    Ok(Chunk {
-        place: place_or_zero(&bytes, 0),
-        listed: Some(place_or_zero(&bytes, 12)),
-    })
+    let listed = list[position as usize];
+    Chunk {
+        place: listed.place,
+        listed: Some(listed.tail),
+    }
 }
 
 // Whether the table, if there is one, gives this end tag too.
@@ -341,31 +362,29 @@ pub fn look_at_chunks<B: Blocks>(
     span: Span,
     used: u64,
     chunks: Chunks,
+    list: &[Listed],
     extents: &mut Vec<Extent>,
 ) -> Result<Sums, Halt>
     requires ready { IsReady (B.is_sound blocks.old) (B.state blocks.old).held page.old }
     requires end { span.end < 2 ^ 44 }
     requires used { used ≤ span.end + 1 }
     requires place { chunks.place < 2 ^ 44 }
-    requires listed { 1 < chunks.count → chunks.place + chunk_table_length chunks.count ≤ span.end + 1 }
+    requires list { IsList chunks.count list.now }
     ensures ready { IsReady (B.is_sound blocks.new) (B.state blocks.new).held page.new }
-    ensures rows { Told (B.state blocks.old).held (λ image. span.end < length image → Finds (chunk_rows image span.end used (chunk_list image chunks.place chunks.count)) result) }
-    ensures used { IfOk result (λ s. Told (B.state blocks.old).held (λ image. span.end < length image
+    ensures rows { Told (B.state blocks.old).held (λ image. span.end < length image → AreListed image chunks.place chunks.count list.now → Finds (chunk_rows image span.end used (chunk_list image chunks.place chunks.count)) result) }
+    ensures used { IfOk result (λ s. Told (B.state blocks.old).held (λ image. span.end < length image → AreListed image chunks.place chunks.count list.now
         → s.used ≡ used + total_length (map (data_extent image) (chunk_list image chunks.place chunks.count)))) }
-    ensures payload { IfOk result (λ s. Told (B.state blocks.old).held (λ image. span.end < length image → s.payload ≡ payload_total image (chunk_list image chunks.place chunks.count))) }
-    ensures extents { OnOk result (Told (B.state blocks.old).held (λ image. span.end < length image
+    ensures payload { IfOk result (λ s. Told (B.state blocks.old).held (λ image. span.end < length image → AreListed image chunks.place chunks.count list.now → s.payload ≡ payload_total image (chunk_list image chunks.place chunks.count))) }
+    ensures extents { OnOk result (Told (B.state blocks.old).held (λ image. span.end < length image → AreListed image chunks.place chunks.count list.now
         → extents.new.items ≡ extents.old.items ++ map (data_extent image) (chunk_list image chunks.place chunks.count))) }
     ensures added { OnOk result (AddsChunks span.end chunks.count extents.old.items extents.new.items) }
     ensures bounds { IfOk result (λ s. (s.used ≡ used + 20 * chunks.count + s.payload) × (s.used ≤ span.end + 1)) }
-    ensures effect { ReadsFew (6 * chunks.count) (B.state blocks.old) (B.state blocks.new) }
+    ensures effect { ReadsFew (4 * chunks.count) (B.state blocks.old) (B.state blocks.new) }
     ensures cause { IfErr result (MayLackMemory (B.state blocks.old).faults (B.state blocks.new).faults) }
 {
     let mut sums = Sums { used, payload: 0 };
     for position in 0..chunks.count {
-        let chunk = match chunk_at(blocks, page, chunks, position) {
-            Ok(chunk) => chunk,
-            Err(halt) => return Err(halt),
-        };
+        let chunk = chunk_at(chunks, list, position);
         let length = match look_at_chunk(blocks, page, span, sums.used, chunk) {
             Ok(length) => length,
             Err(halt) => return Err(halt),

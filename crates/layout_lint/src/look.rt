@@ -118,6 +118,7 @@ fn table_of(header: &NodeHeader) -> Table
 // Looks at the chunks and their table, and at what they hold: rules 25 to 28. It says how many bytes
 // are used with them.
 fn look_at_data<B: Blocks>(
+    alloc: Global,
     blocks: &mut B,
     page: &mut Page,
     span: Span,
@@ -147,12 +148,13 @@ fn look_at_data<B: Blocks>(
         count: header.chunks,
         place: place_of(header.chunk),
     };
-    let behind = match look_at_listing(blocks, page, span, used, chunks, extents) {
-        Ok(behind) => behind,
+    let framed = match look_at_listing(alloc, blocks, page, span, used, chunks, extents) {
+        Ok(framed) => framed,
         Err(halt) => return Err(halt),
     };
     let first = extents.len();
-    let sums = match look_at_chunks(blocks, page, span, behind, chunks, extents) {
+    let list = &framed.list;
+    let sums = match look_at_chunks(blocks, page, span, framed.used, chunks, list, extents) {
         Ok(sums) => sums,
         Err(halt) => return Err(halt),
     };
@@ -215,7 +217,9 @@ pub fn look<B: Blocks>(
         Ok(behind) => behind,
         Err(halt) => return Err(halt),
     };
-    match look_at_data(blocks, page, span, behind, met.place, &header, extents) {
+    match look_at_data(
+        alloc, blocks, page, span, behind, met.place, &header, extents,
+    ) {
         Ok(used) => Ok(Next {
             table: table_of(&header),
             children: header.children,

@@ -1,22 +1,21 @@
 //! The walk over the nodes of a file, from the root, each before its children.
 
-ghost use Rattle.std.specs.Prelude.{◌≡◌, ◌^◌, ◌+◌, ◌-◌, ◌*◌, ℕ, Bool, List, ◌≤◌, ◌<◌, length, IfOk, IfErr, OnOk};
+ghost use Rattle.std.specs.Prelude.{◌≡◌, ◌^◌, ◌+◌, ◌-◌, ◌*◌, ◌++◌, ◌∷◌, [], map, ℕ, Bool, List, ◌≤◌, ◌<◌, length, true, false, IfOk, IfErr, OnOk};
 ghost use Rattle.std.specs.List.{All};
 ghost use Rattle.cg_io.specs.Blocks.{ReadsFew};
-ghost use Rattle.adf_format.specs.FirstFault.{root_visit, is_wide, end_in};
 ghost use Rattle.layout_lint.specs.Told.{Told, IsReady};
 ghost use Rattle.layout_lint.specs.Halts.{MayLackMemory, IsWant};
-ghost use Rattle.layout_lint.specs.Heads.{IsHead};
+ghost use Rattle.layout_lint.specs.Heads.{IsHead, IsSpan};
 ghost use Rattle.layout_lint.specs.Gaps.{IsSolid};
-ghost use Rattle.layout_lint.specs.Walks.{IsSearch, IsFound, EndsWalk, KeepsNode};
-ghost use Rattle.layout_lint.specs.Shapes.{IsSteady, IsWhole};
+ghost use Rattle.layout_lint.specs.Walks.{IsSearch, IsFound, EndsWalk, KeepsNode, IsOpen, AreStepped, node_place, waiting_of, waiting_in, left_in, spare, root_waiting};
+ghost use Rattle.layout_lint.specs.Shapes.{IsSteady, IsWhole, IsGoing, MayFollow, met_place};
 
 use crate::chunks::add_extent;
 use crate::head::{HEAD_LENGTH, Head};
-use crate::look::look;
+use crate::look::{Next, look};
 use crate::node::Met;
 use crate::pages::Page;
-use crate::stack::{Family, push_children};
+use crate::stack::{Family, child_of, take_next};
 use crate::verdict::{Halt, NodePlace, Span};
 use adf_format::{Extent, ExtentKind};
 use cg_io::Blocks;
@@ -26,8 +25,8 @@ use std::collections::BTreeSet;
 /// Where the walk stands.
 #[derive(Drop)]
 pub struct Search {
-    /// The nodes that wait, the next one last.
-    pub stack: Vec<Met>,
+    /// The families of which children wait, the next one last: one for each node on the way to it.
+    pub families: Vec<Family>,
     /// The nodes that were looked at.
     pub nodes: Vec<NodePlace>,
     /// Their places.
@@ -46,30 +45,19 @@ pub struct Found {
     pub used: u64,
 }
 
-fn start(alloc: Global, root: u64) -> Result<Search, Halt>
-    ensures begun { IfOk result (λ search. (image : List ℕ) → root ≡ (root_visit image).place → IsSearch image search) }
+fn start(alloc: Global) -> Result<Search, Halt>
+    ensures begun { IfOk result (λ search. (image : List ℕ) → IsSearch image (root_waiting image ∷ []) search) }
     ensures used { IfOk result (λ search. search.used ≡ 266) }
+    ensures none { IfOk result (λ search. (search.families.items ≡ []) × (search.nodes.items ≡ [])) }
     ensures solid { IfOk result (λ search. (end : ℕ) → 265 ≤ end → All (IsSolid end) search.extents.items) }
     ensures steady { IfOk result (λ search. (wide : Bool) (end : ℕ) → IsSteady wide end search) }
     ensures want { IfErr result IsWant }
 {
-    let mut stack = Vec::new(alloc);
-    let met = Met {
-        place: root,
-        entry: None,
-        parent: 0,
-        position: 0,
-        depth: 0,
-    };
-    match stack.push(met) {
-        Ok(()) => {}
-        Err(_) => return Err(Halt::Memory),
-    }
     let mut extents = Vec::new(alloc);
     add_extent(&mut extents, ExtentKind::Header, 0, 186)?;
     add_extent(&mut extents, ExtentKind::FreeTable, 186, 80)?;
     Ok(Search {
-        stack,
+        families: Vec::new(alloc),
         nodes: Vec::new(alloc),
         places: BTreeSet::new(alloc),
         extents,
@@ -98,55 +86,142 @@ fn keep(search: &mut Search, met: &Met) -> Result<(), Halt>
     }
 }
 
-// Looks at the next node.
+// Puts the children of a node above those that wait.
+fn open(search: &mut Search, met: &Met, number: u64, next: &Next) -> Result<(), Halt>
+    ensures opened { OnOk result (search.new.families.items ≡ search.old.families.items ++ record { number = number; depth = met.now.depth; table = next.now.table; children = next.now.children; next = 0 } ∷ []) }
+    ensures same { OnOk result ((search.new.nodes ≡ search.old.nodes) × (search.new.places ≡ search.old.places) × (search.new.extents ≡ search.old.extents) × (search.new.used ≡ search.old.used)) }
+    ensures want { IfErr result IsWant }
+{
+    let family = Family {
+        number,
+        depth: met.depth,
+        table: next.table,
+        children: next.children,
+        next: 0,
+    };
+    match search.families.push(family) {
+        Ok(()) => Ok(()),
+        Err(_) => Err(Halt::Memory),
+    }
+}
+
+// Looks at a node that waits.
 fn turn<B: Blocks>(
     alloc: Global,
     blocks: &mut B,
     page: &mut Page,
     span: Span,
     search: &mut Search,
+    met: &Met,
 ) -> Result<(), Halt>
     requires ready { IsReady (B.is_sound blocks.old) (B.state blocks.old).held page.old }
     requires end { span.end < 2 ^ 44 }
-    requires some { 0 < length search.old.stack.items }
     requires solid { All (IsSolid span.end) search.old.extents.items }
+    requires readable { All (IsOpen span.end) search.old.families.items }
+    requires stepped { AreStepped search.old.families.items }
+    requires deep { met.now.depth ≡ length search.old.families.items }
     requires steady { IsSteady span.wide span.end search.old }
+    requires follows { MayFollow (map node_place search.old.nodes.items) (met_place met.now) }
+    requires left { 2 * left_in search.old.families.items ≤ search.old.used }
     ensures ready { IsReady (B.is_sound blocks.new) (B.state blocks.new).held page.new }
-    ensures goes_on { OnOk result (Told (B.state blocks.old).held (λ image. span.end < length image → span.wide ≡ is_wide image → span.end ≡ end_in image → IsSearch image search.old → IsSearch image search.new)) }
-    ensures stops { IfErr result (λ h. Told (B.state blocks.old).held (λ image. span.end < length image → span.wide ≡ is_wide image → span.end ≡ end_in image → IsSearch image search.old → EndsWalk image h)) }
+    ensures goes_on { OnOk result (Told (B.state blocks.old).held (λ image. IsSpan image span → IsSearch image (waiting_in image search.old.families.items ++ waiting_of met.now ∷ []) search.old → IsSearch image (waiting_in image search.new.families.items) search.new)) }
+    ensures stops { IfErr result (λ h. Told (B.state blocks.old).held (λ image. IsSpan image span → IsSearch image (waiting_in image search.old.families.items ++ waiting_of met.now ∷ []) search.old → EndsWalk image h)) }
+    ensures going { OnOk result (IsGoing span.wide span.end search.new) }
     ensures more { OnOk result (search.old.used < search.new.used) }
-    ensures room { OnOk result (search.new.used ≤ span.end + 1) }
-    ensures solid { OnOk result (All (IsSolid span.end) search.new.extents.items) }
-    ensures steady { OnOk result (IsSteady span.wide span.end search.new) }
-    ensures few { OnOk result (ReadsFew (search.new.used - search.old.used) (B.state blocks.old) (B.state blocks.new)) }
+    ensures few { OnOk result (ReadsFew (spare search.new - spare search.old) (B.state blocks.old) (B.state blocks.new)) }
+    ensures spare { OnOk result (spare search.old ≤ spare search.new) }
     ensures effect { ReadsFew (3 * (span.end + 1) + 32) (B.state blocks.old) (B.state blocks.new) }
     ensures cause { IfErr result (MayLackMemory (B.state blocks.old).faults (B.state blocks.new).faults) }
 {
-    let Some(met) = search.stack.pop() else {
-        return Err(Halt::Memory);
-    };
     let known = search.places.contains(&met.place);
     let extents = &mut search.extents;
-    let next = match look(alloc, blocks, page, span, known, search.used, &met, extents) {
+    let next = match look(alloc, blocks, page, span, known, search.used, met, extents) {
         Ok(next) => next,
         Err(halt) => return Err(halt),
     };
-    let family = Family {
-        number: search.nodes.len() as u64,
-        depth: met.depth,
-        table: next.table,
-        children: next.children,
-    };
-    match push_children(blocks, page, &mut search.stack, family) {
+    let number = search.nodes.len() as u64;
+    match open(search, met, number, &next) {
         Ok(()) => {}
         Err(halt) => return Err(halt),
     }
-    match keep(search, &met) {
+    match keep(search, met) {
         Ok(()) => {}
         Err(halt) => return Err(halt),
     }
     search.used = next.used;
     Ok(())
+}
+
+// Looks at the root.
+fn look_at_root<B: Blocks>(
+    alloc: Global,
+    blocks: &mut B,
+    page: &mut Page,
+    head: &Head,
+) -> Result<Search, Halt>
+    requires ready { IsReady (B.is_sound blocks.old) (B.state blocks.old).held page.old }
+    requires end { head.now.span.end < 2 ^ 44 }
+    requires long { 510 < head.now.span.end }
+    ensures ready { IsReady (B.is_sound blocks.new) (B.state blocks.new).held page.new }
+    ensures begun { IfOk result (λ search. Told (B.state blocks.old).held (λ image. IsHead image head.now → IsSearch image (waiting_in image search.families.items) search)) }
+    ensures stops { IfErr result (λ h. Told (B.state blocks.old).held (λ image. IsHead image head.now → EndsWalk image h)) }
+    ensures going { IfOk result (IsGoing head.now.span.wide head.now.span.end) }
+    ensures few { IfOk result (λ search. ReadsFew (spare search) (B.state blocks.old) (B.state blocks.new)) }
+    ensures effect { ReadsFew (3 * (head.now.span.end + 1) + 32) (B.state blocks.old) (B.state blocks.new) }
+    ensures cause { IfErr result (MayLackMemory (B.state blocks.old).faults (B.state blocks.new).faults) }
+{
+    let root = Met {
+        place: head.root,
+        entry: None,
+        parent: 0,
+        position: 0,
+        depth: 0,
+    };
+    let mut search = match start(alloc) {
+        Ok(search) => search,
+        Err(halt) => return Err(halt),
+    };
+    match turn(alloc, blocks, page, head.span, &mut search, &root) {
+        Ok(()) => Ok(search),
+        Err(halt) => Err(halt),
+    }
+}
+
+// Looks at the next child that waits. It says whether there was one.
+fn step<B: Blocks>(
+    alloc: Global,
+    blocks: &mut B,
+    page: &mut Page,
+    span: Span,
+    search: &mut Search,
+) -> Result<bool, Halt>
+    requires ready { IsReady (B.is_sound blocks.old) (B.state blocks.old).held page.old }
+    requires end { span.end < 2 ^ 44 }
+    requires going { IsGoing span.wide span.end search.old }
+    ensures ready { IsReady (B.is_sound blocks.new) (B.state blocks.new).held page.new }
+    ensures goes_on { OnOk result (Told (B.state blocks.old).held (λ image. IsSpan image span → IsSearch image (waiting_in image search.old.families.items) search.old → IsSearch image (waiting_in image search.new.families.items) search.new)) }
+    ensures stops { IfErr result (λ h. Told (B.state blocks.old).held (λ image. IsSpan image span → IsSearch image (waiting_in image search.old.families.items) search.old → EndsWalk image h)) }
+    ensures going { OnOk result (IsGoing span.wide span.end search.new) }
+    ensures more { IfOk result (λ more. more ≡ true → search.old.used < search.new.used) }
+    ensures last { IfOk result (λ more. more ≡ false → search.new.families.items ≡ []) }
+    ensures few { OnOk result (ReadsFew (spare search.new - spare search.old) (B.state blocks.old) (B.state blocks.new)) }
+    ensures spare { OnOk result (spare search.old ≤ spare search.new) }
+    ensures effect { ReadsFew (3 * (span.end + 1) + 34) (B.state blocks.old) (B.state blocks.new) }
+    ensures cause { IfErr result (MayLackMemory (B.state blocks.old).faults (B.state blocks.new).faults) }
+{
+    let family = match take_next(&mut search.families) {
+        Ok(Some(family)) => family,
+        Ok(None) => return Ok(false),
+        Err(halt) => return Err(halt),
+    };
+    let child = match child_of(blocks, page, family) {
+        Ok(child) => child,
+        Err(halt) => return Err(halt),
+    };
+    match turn(alloc, blocks, page, span, search, &child) {
+        Ok(()) => Ok(true),
+        Err(halt) => Err(halt),
+    }
 }
 
 /// Walks over all nodes of a file: rules 12 to 28.
@@ -169,15 +244,19 @@ pub fn look_at_nodes<B: Blocks>(
     ensures effect { ReadsFew (5 * (head.now.span.end + 1)) (B.state blocks.old) (B.state blocks.new) }
     ensures cause { IfErr result (MayLackMemory (B.state blocks.old).faults (B.state blocks.new).faults) }
 {
-    let mut search = start(alloc, head.root)?;
-    while !search.stack.is_empty() {
-        match turn(alloc, blocks, page, head.span, &mut search) {
-            Ok(()) => {}
+    let mut search = match look_at_root(alloc, blocks, page, head) {
+        Ok(search) => search,
+        Err(halt) => return Err(halt),
+    };
+    'walk: loop {
+        match step(alloc, blocks, page, head.span, &mut search) {
+            Ok(true) => {}
+            Ok(false) => break,
             Err(halt) => return Err(halt),
         }
     }
     let Search {
-        stack: _,
+        families: _,
         nodes,
         places: _,
         extents,

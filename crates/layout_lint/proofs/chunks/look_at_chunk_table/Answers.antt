@@ -48,3 +48,6 @@ returns-clause-rows g c = λ image told long.
     (c.in-Ok-look_at_chunk_entries.ensures.rows image told_then (omega (arith, c.in-Ok.ensures.fits)))
     (rw c.tail-tail.ensures at (c.in-Ok-look_at_tail.ensures.rows image (c.look_at_chunk_entries.ensures.effect.held ∙ told_then) (omega (arith, c.in-Ok.ensures.fits))))
     (rw c.table_length-length.ensures at (sym c.has_room.ensures ∙ c.if-not-has_room.false))
+
+pub returns-clause-says : goal.returns-clause-says
+returns-clause-says g c = λ image told long. c.in-Ok-look_at_chunk_entries.ensures.says image (c.look_at_start.ensures.effect.held ∙ told) (omega (arith, c.in-Ok.ensures.fits))

@@ -12,52 +12,48 @@ use Rattle.layout_lint.proofs.chunks.look_at_chunks.Goals as goal
 pub loop-position-preserved : goal.loop-position-preserved
 loop-position-preserved g c = record {
   ready = c.look_at_chunk.ensures.ready;
-  effect = reads_then _ _ _ _ _ _ c.loop-position.invariant.effect (reads_then _ _ 6 _ _ _ c.chunk_at.ensures.effect c.look_at_chunk.ensures.effect (omega arith)) (omega arith);
-  low = omega (arith, c.in-Ok-look_at_chunk.ensures.fits);
-  room = omega (arith, c.in-Ok-look_at_chunk.ensures.fits);
-  adds = adds_one _ _ _ _ _ _ c.loop-position.invariant.adds c.in-Ok-add_extent.ensures.added (record { long = omega (arith, c.in-Ok-look_at_chunk.ensures.fits); inside = omega (arith, c.in-Ok-look_at_chunk.ensures.fits) }) refl;
-  rest = λ image told long.
+  effect = reads_then _ _ _ _ _ _ c.loop-position.invariant.effect c.look_at_chunk.ensures.effect (omega arith);
+  low = omega (arith, c.in-Ok.ensures.fits);
+  room = omega (arith, c.in-Ok.ensures.fits);
+  adds = adds_one _ _ _ _ _ _ c.loop-position.invariant.adds c.in-Ok-add_extent.ensures.added (record { long = omega (arith, c.in-Ok.ensures.fits); inside = omega (arith, c.in-Ok.ensures.fits) }) refl;
+  rest = λ image told long are.
       let f : ℕ → ChunkVisit = chunk_visit image c.args.chunks.place c.args.chunks.count in
       let told_now = c.loop-position.invariant.effect.held ∙ told in
-      let told_then = c.chunk_at.ensures.effect.held ∙ told_now in
-      let is : visit_of c.in-Ok.chunk ≡ f c.loop-position.position = c.in-Ok.ensures.says image told_now (λ more. let w = c.requires.listed more in omega (arith, w)) in
-      let size : c.in-Ok-look_at_chunk.length ≡ chunk_length image (f c.loop-position.position).place = c.in-Ok-look_at_chunk.ensures.says image told_then long ∙ ap (λ (v : ChunkVisit). chunk_length image v.place) is in
-      kept_here image c.args.span.end f c.loop-position.position c.args.chunks.count c.loop-position-test.true c.loop-position.sums.used c.in-Ok-look_at_chunk.length _ size
-      (subst (λ v. first_broken (one_chunk_rows image c.args.span.end c.loop-position.sums.used v) ≡ None) is (c.in-Ok-look_at_chunk.ensures.rows image told_then long)) (c.loop-position.invariant.rest image told long);
-  all = λ image told long.
+      let is : visit_of c.chunk_at-chunk.result ≡ f c.loop-position.position = c.chunk_at-chunk.ensures.says image are in
+      let size : c.in-Ok.length ≡ chunk_length image (f c.loop-position.position).place = c.in-Ok.ensures.says image told_now long ∙ ap (λ (v : ChunkVisit). chunk_length image v.place) is in
+      kept_here image c.args.span.end f c.loop-position.position c.args.chunks.count c.loop-position-test.true c.loop-position.sums.used c.in-Ok.length _ size
+      (subst (λ v. first_broken (one_chunk_rows image c.args.span.end c.loop-position.sums.used v) ≡ None) is (c.in-Ok.ensures.rows image told_now long)) (c.loop-position.invariant.rest image told long are);
+  all = λ image told long are.
       let f : ℕ → ChunkVisit = chunk_visit image c.args.chunks.place c.args.chunks.count in
       let told_now = c.loop-position.invariant.effect.held ∙ told in
-      let told_then = c.chunk_at.ensures.effect.held ∙ told_now in
-      let is : visit_of c.in-Ok.chunk ≡ f c.loop-position.position = c.in-Ok.ensures.says image told_now (λ more. let w = c.requires.listed more in omega (arith, w)) in
-      let size : c.in-Ok-look_at_chunk.length ≡ chunk_length image (f c.loop-position.position).place = c.in-Ok-look_at_chunk.ensures.says image told_then long ∙ ap (λ (v : ChunkVisit). chunk_length image v.place) is in
-      used_here image c.args.span.end f c.loop-position.position c.args.chunks.count c.loop-position-test.true _ c.loop-position.sums.used c.in-Ok-look_at_chunk.length size (c.loop-position.invariant.all image told long);
-  payload = λ image told long.
+      let is : visit_of c.chunk_at-chunk.result ≡ f c.loop-position.position = c.chunk_at-chunk.ensures.says image are in
+      let size : c.in-Ok.length ≡ chunk_length image (f c.loop-position.position).place = c.in-Ok.ensures.says image told_now long ∙ ap (λ (v : ChunkVisit). chunk_length image v.place) is in
+      used_here image c.args.span.end f c.loop-position.position c.args.chunks.count c.loop-position-test.true _ c.loop-position.sums.used c.in-Ok.length size (c.loop-position.invariant.all image told long are);
+  payload = λ image told long are.
       let f : ℕ → ChunkVisit = chunk_visit image c.args.chunks.place c.args.chunks.count in
       let told_now = c.loop-position.invariant.effect.held ∙ told in
-      let told_then = c.chunk_at.ensures.effect.held ∙ told_now in
-      let is : visit_of c.in-Ok.chunk ≡ f c.loop-position.position = c.in-Ok.ensures.says image told_now (λ more. let w = c.requires.listed more in omega (arith, w)) in
-      let size : c.in-Ok-look_at_chunk.length ≡ chunk_length image (f c.loop-position.position).place = c.in-Ok-look_at_chunk.ensures.says image told_then long ∙ ap (λ (v : ChunkVisit). chunk_length image v.place) is in
-      payload_here image c.args.span.end f c.loop-position.position c.args.chunks.count c.loop-position-test.true _ c.loop-position.sums.payload c.in-Ok-look_at_chunk.length size (c.loop-position.invariant.payload image told long);
-  extents = λ image told long.
+      let is : visit_of c.chunk_at-chunk.result ≡ f c.loop-position.position = c.chunk_at-chunk.ensures.says image are in
+      let size : c.in-Ok.length ≡ chunk_length image (f c.loop-position.position).place = c.in-Ok.ensures.says image told_now long ∙ ap (λ (v : ChunkVisit). chunk_length image v.place) is in
+      payload_here image c.args.span.end f c.loop-position.position c.args.chunks.count c.loop-position-test.true _ c.loop-position.sums.payload c.in-Ok.length size (c.loop-position.invariant.payload image told long are);
+  extents = λ image told long are.
       let f : ℕ → ChunkVisit = chunk_visit image c.args.chunks.place c.args.chunks.count in
       let told_now = c.loop-position.invariant.effect.held ∙ told in
-      let told_then = c.chunk_at.ensures.effect.held ∙ told_now in
-      let is : visit_of c.in-Ok.chunk ≡ f c.loop-position.position = c.in-Ok.ensures.says image told_now (λ more. let w = c.requires.listed more in omega (arith, w)) in
-      let size : c.in-Ok-look_at_chunk.length ≡ chunk_length image (f c.loop-position.position).place = c.in-Ok-look_at_chunk.ensures.says image told_then long ∙ ap (λ (v : ChunkVisit). chunk_length image v.place) is in
+      let is : visit_of c.chunk_at-chunk.result ≡ f c.loop-position.position = c.chunk_at-chunk.ensures.says image are in
+      let size : c.in-Ok.length ≡ chunk_length image (f c.loop-position.position).place = c.in-Ok.ensures.says image told_now long ∙ ap (λ (v : ChunkVisit). chunk_length image v.place) is in
       extents_here image c.args.span.end f c.loop-position.position c.args.chunks.count c.loop-position-test.true _ c.loop-position.extents.items c.add_extent.new.extents.items _ c.in-Ok-add_extent.ensures.added
-      (same_extent image c.in-Ok.chunk.place c.in-Ok-look_at_chunk.length (f c.loop-position.position) (ap (λ (v : ChunkVisit). v.place) is) size) (c.loop-position.invariant.extents image told long);
+      (same_extent image c.chunk_at-chunk.result.place c.in-Ok.length (f c.loop-position.position) (ap (λ (v : ChunkVisit). v.place) is) size) (c.loop-position.invariant.extents image told long are);
 }
 
-pub returns-in-Err-look_at_chunk-clause-rows : goal.returns-in-Err-look_at_chunk-clause-rows
-returns-in-Err-look_at_chunk-clause-rows g c = λ image told long.
+pub returns-in-Err-clause-rows : goal.returns-in-Err-clause-rows
+returns-in-Err-clause-rows g c = λ image told long are.
     let f : ℕ → ChunkVisit = chunk_visit image c.args.chunks.place c.args.chunks.count in
     let told_now = c.loop-position.invariant.effect.held ∙ told in
-    let is : visit_of c.in-Ok.chunk ≡ f c.loop-position.position = c.in-Ok.ensures.says image told_now (λ more. let w = c.requires.listed more in omega (arith, w)) in
-    breaks_like (chunk_rows image c.args.span.end c.args.used (chunk_list image c.args.chunks.place c.args.chunks.count)) (chunk_rows image c.args.span.end c.loop-position.sums.used (map f (range_with_len c.loop-position.position (c.args.chunks.count - c.loop-position.position)))) c.in-Err-look_at_chunk.halt (c.loop-position.invariant.rest image told long)
-    (breaks_here image c.args.span.end f c.loop-position.position c.args.chunks.count c.loop-position-test.true c.loop-position.sums.used c.in-Err-look_at_chunk.halt
-    (subst (λ v. Breaks (one_chunk_rows image c.args.span.end c.loop-position.sums.used v) c.in-Err-look_at_chunk.halt) is (c.in-Err-look_at_chunk.ensures.rows image (c.chunk_at.ensures.effect.held ∙ told_now) long)))
+    let is : visit_of c.chunk_at-chunk.result ≡ f c.loop-position.position = c.chunk_at-chunk.ensures.says image are in
+    breaks_like (chunk_rows image c.args.span.end c.args.used (chunk_list image c.args.chunks.place c.args.chunks.count)) (chunk_rows image c.args.span.end c.loop-position.sums.used (map f (range_with_len c.loop-position.position (c.args.chunks.count - c.loop-position.position)))) c.in-Err.halt (c.loop-position.invariant.rest image told long are)
+    (breaks_here image c.args.span.end f c.loop-position.position c.args.chunks.count c.loop-position-test.true c.loop-position.sums.used c.in-Err.halt
+    (subst (λ v. Breaks (one_chunk_rows image c.args.span.end c.loop-position.sums.used v) c.in-Err.halt) is (c.in-Err.ensures.rows image told_now long)))
 
 pub returns-clause-rows : goal.returns-clause-rows
-returns-clause-rows g c = λ image told long.
+returns-clause-rows g c = λ image told long are.
     let none = none_left (chunk_visit image c.args.chunks.place c.args.chunks.count) c.loop-position.position c.args.chunks.count (omega arith) in
-    c.loop-position.invariant.rest image told long ∙ ap (λ vs. first_broken (chunk_rows image c.args.span.end c.loop-position.sums.used vs)) none ∙ no_chunks image c.args.span.end c.loop-position.sums.used
+    c.loop-position.invariant.rest image told long are ∙ ap (λ vs. first_broken (chunk_rows image c.args.span.end c.loop-position.sums.used vs)) none ∙ no_chunks image c.args.span.end c.loop-position.sums.used

@@ -5,7 +5,7 @@ use Rattle.adf_format.specs.Tiles.{total_length}
 use Rattle.adf_format.specs.Checks.{first_broken}
 use Rattle.adf_format.specs.FirstFault.{ChunkVisit, chunk_rows, payload_total}
 use Rattle.layout_lint.specs.Told.{Told, IsReady}
-use Rattle.layout_lint.specs.Chunks.{chunk_visit, chunk_list, data_extent, AddsChunks}
+use Rattle.layout_lint.specs.Chunks.{AreListed, chunk_visit, chunk_list, data_extent, AddsChunks}
 use Rattle.layout_lint.proofs.chunks.look_at_chunks.Given as goal
 
 abbrev pub invariant-loop-position : goal.invariant-loop-position
@@ -13,16 +13,16 @@ invariant-loop-position g l =
     let left : List ℕ → List ChunkVisit = λ image. map (chunk_visit image l.chunks.place l.chunks.count) (range_with_len l.position (l.chunks.count - l.position)) in
     record {
       ready : IsReady (g.B.Blocks.is_sound l.blocks) (g.B.Blocks.state l.blocks).held l.page;
-      effect : ReadsFew (6 * l.position) (g.B.Blocks.state l.initial.blocks) (g.B.Blocks.state l.blocks);
+      effect : ReadsFew (4 * l.position) (g.B.Blocks.state l.initial.blocks) (g.B.Blocks.state l.blocks);
       low : l.sums.used ≡ l.used + 20 * l.position + l.sums.payload;
       room : l.sums.used ≤ l.span.end + 1;
       adds : AddsChunks l.span.end l.position l.initial.extents.items l.extents.items;
-      rest : Told (g.B.Blocks.state l.initial.blocks).held (λ image. l.span.end < length image
+      rest : Told (g.B.Blocks.state l.initial.blocks).held (λ image. l.span.end < length image → AreListed image l.chunks.place l.chunks.count l.list
           → first_broken (chunk_rows image l.span.end l.used (chunk_list image l.chunks.place l.chunks.count)) ≡ first_broken (chunk_rows image l.span.end l.sums.used (left image)));
-      all : Told (g.B.Blocks.state l.initial.blocks).held (λ image. l.span.end < length image
+      all : Told (g.B.Blocks.state l.initial.blocks).held (λ image. l.span.end < length image → AreListed image l.chunks.place l.chunks.count l.list
           → l.used + total_length (map (data_extent image) (chunk_list image l.chunks.place l.chunks.count)) ≡ l.sums.used + total_length (map (data_extent image) (left image)));
-      payload : Told (g.B.Blocks.state l.initial.blocks).held (λ image. l.span.end < length image
+      payload : Told (g.B.Blocks.state l.initial.blocks).held (λ image. l.span.end < length image → AreListed image l.chunks.place l.chunks.count l.list
           → payload_total image (chunk_list image l.chunks.place l.chunks.count) ≡ l.sums.payload + payload_total image (left image));
-      extents : Told (g.B.Blocks.state l.initial.blocks).held (λ image. l.span.end < length image
+      extents : Told (g.B.Blocks.state l.initial.blocks).held (λ image. l.span.end < length image → AreListed image l.chunks.place l.chunks.count l.list
           → l.initial.extents.items ++ map (data_extent image) (chunk_list image l.chunks.place l.chunks.count) ≡ l.extents.items ++ map (data_extent image) (left image));
     }

@@ -1,7 +1,7 @@
 use Rattle.std.proofs.Common.{◌∙◌, ap, map}
 use Rattle.std.proofs.lemmas.List.Elements.{All-same}
 use Rattle.adf_format.specs.FirstFault.{payload_total}
-use Rattle.layout_lint.specs.Chunks.{IsChunk, data_extent}
+use Rattle.layout_lint.specs.Chunks.{IsChunk, data_extent, entry_visit}
 use Rattle.layout_lint.proofs.DataLaws.{visits_are, breaks_list, breaks_chunks, breaks_contents, keeps_data, used_said, extents_said, put_behind, all_solid}
 use Rattle.layout_lint.proofs.ShapeLaws.{adds_then, adds_more}
 use Rattle.layout_lint.proofs.look.look_at_data.Goals as goal
@@ -13,47 +13,47 @@ returns-in-Err-clause-rows g c = λ image told long is.
 pub returns-in-Err-look_at_chunks-clause-rows : goal.returns-in-Err-look_at_chunks-clause-rows
 returns-in-Err-look_at_chunks-clause-rows g c = λ image told long is.
     let told_then = c.look_at_listing.ensures.short.held ∙ told in
-    breaks_chunks image c.args.span.wide c.args.span.end c.args.used c.args.place c.place_of.result c.args.header.now is c.place_of.ensures.value c.in-Ok.behind c.in-Ok.ensures.used c.in-Err-look_at_chunks.halt
-    (c.in-Ok.ensures.rows image told long) (c.in-Err-look_at_chunks.ensures.rows image told_then long)
+    breaks_chunks image c.args.span.wide c.args.span.end c.args.used c.args.place c.place_of.result c.args.header.now is c.place_of.ensures.value c.in-Ok.framed.used c.in-Ok.ensures.used c.in-Err-look_at_chunks.halt
+    (c.in-Ok.ensures.rows image told long) (c.in-Err-look_at_chunks.ensures.rows image told_then long (λ more. ap (map entry_visit) c.deref.ensures.value ∙ c.in-Ok.ensures.listed image told long more))
 
 pub look_at_contents-requires-clause-chunks : goal.look_at_contents-requires-clause-chunks
 look_at_contents-requires-clause-chunks g c =
     let a = c.in-Ok-look_at_chunks.ensures.added in
-    All-same (IsChunk c.args.span.end) _ a.more (put_behind c.deref.result.now c.look_at_chunks.new.extents.items c.look_at_listing.new.extents.items a.more c.len-first.result c.deref.ensures.value a.added (c.len-first.ensures ∙ c.look_at_listing.new.extents.ok.0)) a.chunks
+    All-same (IsChunk c.args.span.end) _ a.more (put_behind c.deref-2.result.now c.look_at_chunks.new.extents.items c.look_at_listing.new.extents.items a.more c.len-first.result c.deref-2.ensures.value a.added (c.len-first.ensures ∙ c.look_at_listing.new.extents.ok.0)) a.chunks
 
 pub returns-in-Ok-look_at_contents-clause-rows : goal.returns-in-Ok-look_at_contents-clause-rows
 returns-in-Ok-look_at_contents-clause-rows g c = λ image told long is.
     let told_then = c.look_at_listing.ensures.short.held ∙ told in
     let told_last = c.look_at_chunks.ensures.effect.held ∙ told_then in
     let visits = visits_are image c.args.span.wide c.args.span.end c.args.used c.args.place c.place_of.result c.args.header.now is c.place_of.ensures.value in
-    let parts = put_behind c.deref.result.now c.look_at_chunks.new.extents.items c.look_at_listing.new.extents.items _ c.len-first.result c.deref.ensures.value (c.in-Ok-look_at_chunks.ensures.extents image told_then long) (c.len-first.ensures ∙ c.look_at_listing.new.extents.ok.0) in
-    keeps_data image c.args.span.wide c.args.span.end c.args.used c.args.place c.place_of.result c.args.header.now is c.place_of.ensures.value c.in-Ok.behind c.in-Ok.ensures.used
-    (c.in-Ok.ensures.rows image told long) (c.in-Ok-look_at_chunks.ensures.rows image told_then long)
-    (c.in-Ok-look_at_contents.ensures.rows image told_last long is (parts ∙ ap (map (data_extent image)) visits) (c.in-Ok-look_at_chunks.ensures.payload image told_then long ∙ ap (payload_total image) visits))
+    let parts = put_behind c.deref-2.result.now c.look_at_chunks.new.extents.items c.look_at_listing.new.extents.items _ c.len-first.result c.deref-2.ensures.value (c.in-Ok-look_at_chunks.ensures.extents image told_then long (λ more. ap (map entry_visit) c.deref.ensures.value ∙ c.in-Ok.ensures.listed image told long more)) (c.len-first.ensures ∙ c.look_at_listing.new.extents.ok.0) in
+    keeps_data image c.args.span.wide c.args.span.end c.args.used c.args.place c.place_of.result c.args.header.now is c.place_of.ensures.value c.in-Ok.framed.used c.in-Ok.ensures.used
+    (c.in-Ok.ensures.rows image told long) (c.in-Ok-look_at_chunks.ensures.rows image told_then long (λ more. ap (map entry_visit) c.deref.ensures.value ∙ c.in-Ok.ensures.listed image told long more))
+    (c.in-Ok-look_at_contents.ensures.rows image told_last long is (parts ∙ ap (map (data_extent image)) visits) (c.in-Ok-look_at_chunks.ensures.payload image told_then long (λ more. ap (map entry_visit) c.deref.ensures.value ∙ c.in-Ok.ensures.listed image told long more) ∙ ap (payload_total image) visits))
 
 pub returns-in-Ok-look_at_contents-clause-used : goal.returns-in-Ok-look_at_contents-clause-used
 returns-in-Ok-look_at_contents-clause-used g c = λ image told long is.
-    used_said image c.args.span.wide c.args.span.end c.args.used c.args.place c.place_of.result c.args.header.now is c.place_of.ensures.value c.in-Ok.behind c.in-Ok.ensures.used c.in-Ok-look_at_chunks.sums.used
-    (c.in-Ok-look_at_chunks.ensures.used image (c.look_at_listing.ensures.short.held ∙ told) long)
+    used_said image c.args.span.wide c.args.span.end c.args.used c.args.place c.place_of.result c.args.header.now is c.place_of.ensures.value c.in-Ok.framed.used c.in-Ok.ensures.used c.in-Ok-look_at_chunks.sums.used
+    (c.in-Ok-look_at_chunks.ensures.used image (c.look_at_listing.ensures.short.held ∙ told) long (λ more. ap (map entry_visit) c.deref.ensures.value ∙ c.in-Ok.ensures.listed image told long more))
 
 pub returns-in-Ok-look_at_contents-clause-extents : goal.returns-in-Ok-look_at_contents-clause-extents
 returns-in-Ok-look_at_contents-clause-extents g c = λ image told long is.
     extents_said image c.args.span.wide c.args.span.end c.args.used c.args.place c.place_of.result c.args.header.now is c.place_of.ensures.value c.args.extents.now.items c.look_at_listing.new.extents.items c.look_at_chunks.new.extents.items
-    c.in-Ok.ensures.extents (c.in-Ok-look_at_chunks.ensures.extents image (c.look_at_listing.ensures.short.held ∙ told) long)
+    c.in-Ok.ensures.extents (c.in-Ok-look_at_chunks.ensures.extents image (c.look_at_listing.ensures.short.held ∙ told) long (λ more. ap (map entry_visit) c.deref.ensures.value ∙ c.in-Ok.ensures.listed image told long more))
 
 pub returns-in-Ok-look_at_contents-clause-solid : goal.returns-in-Ok-look_at_contents-clause-solid
 returns-in-Ok-look_at_contents-clause-solid g c = λ solid.
     all_solid c.args.span.end c.place_of.result c.args.header.now.chunks _ c.args.extents.now.items c.look_at_listing.new.extents.items c.look_at_chunks.new.extents.items c.in-Ok.ensures.extents c.in-Ok.ensures.fits c.in-Ok-look_at_chunks.ensures.added solid
 
-pub returns-in-Err-look_at_contents-clause-rows : goal.returns-in-Err-look_at_contents-clause-rows
-returns-in-Err-look_at_contents-clause-rows g c = λ image told long is.
+pub returns-clause-rows : goal.returns-clause-rows
+returns-clause-rows g c = λ image told long is.
     let told_then = c.look_at_listing.ensures.short.held ∙ told in
     let told_last = c.look_at_chunks.ensures.effect.held ∙ told_then in
     let visits = visits_are image c.args.span.wide c.args.span.end c.args.used c.args.place c.place_of.result c.args.header.now is c.place_of.ensures.value in
-    let parts = put_behind c.deref.result.now c.look_at_chunks.new.extents.items c.look_at_listing.new.extents.items _ c.len-first.result c.deref.ensures.value (c.in-Ok-look_at_chunks.ensures.extents image told_then long) (c.len-first.ensures ∙ c.look_at_listing.new.extents.ok.0) in
-    breaks_contents image c.args.span.wide c.args.span.end c.args.used c.args.place c.place_of.result c.args.header.now is c.place_of.ensures.value c.in-Ok.behind c.in-Ok.ensures.used c.in-Err-look_at_contents.halt
-    (c.in-Ok.ensures.rows image told long) (c.in-Ok-look_at_chunks.ensures.rows image told_then long)
-    (c.in-Err-look_at_contents.ensures.rows image told_last long is (parts ∙ ap (map (data_extent image)) visits) (c.in-Ok-look_at_chunks.ensures.payload image told_then long ∙ ap (payload_total image) visits))
+    let parts = put_behind c.deref-2.result.now c.look_at_chunks.new.extents.items c.look_at_listing.new.extents.items _ c.len-first.result c.deref-2.ensures.value (c.in-Ok-look_at_chunks.ensures.extents image told_then long (λ more. ap (map entry_visit) c.deref.ensures.value ∙ c.in-Ok.ensures.listed image told long more)) (c.len-first.ensures ∙ c.look_at_listing.new.extents.ok.0) in
+    breaks_contents image c.args.span.wide c.args.span.end c.args.used c.args.place c.place_of.result c.args.header.now is c.place_of.ensures.value c.in-Ok.framed.used c.in-Ok.ensures.used c.in-Err-look_at_contents.halt
+    (c.in-Ok.ensures.rows image told long) (c.in-Ok-look_at_chunks.ensures.rows image told_then long (λ more. ap (map entry_visit) c.deref.ensures.value ∙ c.in-Ok.ensures.listed image told long more))
+    (c.in-Err-look_at_contents.ensures.rows image told_last long is (parts ∙ ap (map (data_extent image)) visits) (c.in-Ok-look_at_chunks.ensures.payload image told_then long (λ more. ap (map entry_visit) c.deref.ensures.value ∙ c.in-Ok.ensures.listed image told long more) ∙ ap (payload_total image) visits))
 
 pub returns-in-Ok-look_at_contents-clause-adds : goal.returns-in-Ok-look_at_contents-clause-adds
 returns-in-Ok-look_at_contents-clause-adds g c = adds_then _ _ _ (adds_more _ _ _ c.in-Ok.ensures.extents) (adds_more _ _ _ c.in-Ok-look_at_chunks.ensures.added.added)

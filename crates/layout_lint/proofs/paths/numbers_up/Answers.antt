@@ -2,7 +2,7 @@ use Rattle.std.proofs.Common.{◌<◌, ℕ, length, refl, sym, subst, arith}
 use Rattle.std.specs.List.{All}
 use Rattle.std.proofs.lemmas.List.Elements.{All-push}
 use Rattle.std.proofs.lemmas.Option.{slice_get-get_or}
-use Rattle.layout_lint.proofs.PathLaws.{climb_start, climb_root, climb_step, parent_before}
+use Rattle.layout_lint.proofs.PathLaws.{climb_root, climb_step, parent_before}
 use Rattle.layout_lint.proofs.paths.numbers_up.Goals as goal
 
 pub loop-at-preserved : goal.loop-at-preserved
