@@ -1,6 +1,6 @@
 //! A file as a device.
 
-ghost use Rattle.std.specs.Prelude.{◌≡◌, ◌^◌, ◌≤◌, IfOk};
+ghost use Rattle.std.specs.Prelude.{◌≡◌, ◌^◌, ◌≤◌, length, Some, IfOk, OnOk};
 
 use cg_io::{Device, DeviceFault};
 use std::fs::{OpenFile, OpenOptions};
@@ -17,6 +17,8 @@ pub struct HostDevice<R: Files + Clone + Drop> {
     rt: R,
     path: String,
     file: Option<R::File>,
+    // Where the file stands, if that is known.
+    stands: Option<u64>,
     faults: u64,
     lost: u64,
     reads: u64,
@@ -34,6 +36,7 @@ impl<R: Files + Clone + Drop> HostDevice<R> {
             rt,
             path,
             file: None,
+            stands: None,
             faults: 0,
             lost: 0,
             reads: 0,
@@ -102,18 +105,32 @@ fn measure<R: Files + Clone + Drop>(
     Ok(length)
 }
 
-// Reads the bytes from a place on, zeros past the end.
-fn read_from<F: Read + Seek>(file: &mut F, at: u64, into: &mut [u8]) -> io::Result<()> {
+// Seeks a place, unless the file stands there already.
+fn stand_at<F: Seek>(file: &mut F, stands: &mut Option<u64>, at: u64) -> io::Result<()>
+    ensures { OnOk result (stands.new ≡ Some at) }
+{
+    if *stands == Some(at) {
+        return Ok(());
+    }
+    *stands = None;
     file.seek(SeekFrom::Start(at))?;
+    *stands = Some(at);
+    Ok(())
+}
+
+// Reads the bytes up to the end, and zeros past it. It says how many were read.
+fn fill<F: Read>(file: &mut F, into: &mut [u8]) -> io::Result<usize>
+    ensures { IfOk result (λ n. n ≤ length into.new) }
+{
     let mut filled = 0;
     'pieces: for _ in 0..u64::MAX {
         if filled == into.len() {
-            return Ok(());
+            return Ok(filled);
         }
         match file.read(&mut into[filled..]) {
             Ok(0) => {
                 into[filled..].fill(0);
-                return Ok(());
+                return Ok(filled);
             }
             Ok(count) => filled += count,
             Err(error) => {
@@ -126,10 +143,41 @@ fn read_from<F: Read + Seek>(file: &mut F, at: u64, into: &mut [u8]) -> io::Resu
     Err(io::Error::from(ErrorKind::TimedOut))
 }
 
+// Reads a block. After a failed read the file may stand anywhere.
+fn read_from<F: Read + Seek>(
+    file: &mut F,
+    stands: &mut Option<u64>,
+    n: u32,
+    into: &mut [u8; 4096],
+) -> io::Result<()> {
+    let at = u64::from(n) * 4096;
+    stand_at(file, stands, at)?;
+    *stands = None;
+    let filled = fill(file, into)?;
+    *stands = Some(at + filled as u64);
+    Ok(())
+}
+
+// Writes a block. After a failed write the file may stand anywhere.
+fn write_to<F: Write + Seek>(
+    file: &mut F,
+    stands: &mut Option<u64>,
+    n: u32,
+    from: &[u8; 4096],
+) -> io::Result<()> {
+    let at = u64::from(n) * 4096;
+    stand_at(file, stands, at)?;
+    *stands = None;
+    file.write_all(from)?;
+    *stands = Some(at + 4096);
+    Ok(())
+}
+
 fn read_block_at<R: Files + Clone + Drop>(
     rt: &R,
     path: &str,
     file: &mut Option<R::File>,
+    stands: &mut Option<u64>,
     n: u32,
     into: &mut [u8; 4096],
 ) -> io::Result<()> {
@@ -139,7 +187,7 @@ fn read_block_at<R: Files + Clone + Drop>(
             into.fill(0);
             Ok(())
         }
-        Some(file) => read_from(file, u64::from(n) * 4096, into),
+        Some(file) => read_from(file, stands, n, into),
     }
 }
 
@@ -147,16 +195,14 @@ fn write_block_at<R: Files + Clone + Drop>(
     rt: &R,
     path: &str,
     file: &mut Option<R::File>,
+    stands: &mut Option<u64>,
     n: u32,
     from: &[u8; 4096],
 ) -> io::Result<()> {
     open_once(rt, path, file, true)?;
     match file {
         None => Err(io::Error::from(ErrorKind::NotFound)),
-        Some(file) => {
-            file.seek(SeekFrom::Start(u64::from(n) * 4096))?;
-            file.write_all(from)
-        }
+        Some(file) => write_to(file, stands, n, from),
     }
 }
 
@@ -178,7 +224,14 @@ impl<R: Files + Clone + Drop> Device for HostDevice<R> {
 
     fn read_block(&mut self, n: u32, into: &mut [u8; 4096]) -> Result<(), DeviceFault> {
         self.reads = self.reads.saturating_add(1);
-        match read_block_at(&self.rt, &self.path, &mut self.file, n, into) {
+        match read_block_at(
+            &self.rt,
+            &self.path,
+            &mut self.file,
+            &mut self.stands,
+            n,
+            into,
+        ) {
             Ok(()) => Ok(()),
             Err(_) => {
                 self.faults = self.faults.saturating_add(1);
@@ -189,7 +242,14 @@ impl<R: Files + Clone + Drop> Device for HostDevice<R> {
 
     fn write_block(&mut self, n: u32, from: &[u8; 4096]) -> Result<(), DeviceFault> {
         self.writes = self.writes.saturating_add(1);
-        match write_block_at(&self.rt, &self.path, &mut self.file, n, from) {
+        match write_block_at(
+            &self.rt,
+            &self.path,
+            &mut self.file,
+            &mut self.stands,
+            n,
+            from,
+        ) {
             Ok(()) => Ok(()),
             Err(_) => {
                 self.faults = self.faults.saturating_add(1);
