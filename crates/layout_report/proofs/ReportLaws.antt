@@ -30,7 +30,7 @@ part_behind start taken now lines line front part =
 pub ends_behind : (said : Report → List ℕ → Type 0) (wanted : Report) (lines line : List ℕ) (result : Report) (start taken now : Option (List ℕ)) (first faults later : ℕ)
     → said wanted (lines ++ line) → Appends start taken lines → first ≤ faults → Ends wanted line result taken now faults later → Says said start now first later result
 ends_behind said wanted lines line result start taken now first faults later is front rises ends =
-    elim ends [
+    elim ends.1 [
       | inl all ↦ subst (λ (r : Report). Says said start now first later r) (sym all.0) (whole (lines ++ line) is (Appends-trans start taken now lines line front all.1))
       | inr cut ↦ let rose : Rose first later = omega (arith, cut.1) in
           subst (λ (r : Report). Says said start now first later r) (sym cut.0) (torn wanted (lines ++ line) is rose (part_behind start taken now lines line front cut.2))

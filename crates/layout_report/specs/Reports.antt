@@ -3,7 +3,7 @@ use Rattle.std.specs.Prelude.{◌≡◌, ◌⊎◌, ℕ, Bool, List, [], ◌∷�
 use Rattle.std.specs.Io.KnownBytes.{Appends}
 use Rattle.cg_io.specs.Cause.{Rose}
 use Rattle.cg_io.specs.Device.{DeviceState}
-use Rattle.session.specs.Printed.{AppendsPart}
+use Rattle.session.specs.Printed.{AppendsPart, EndsWith}
 use Rattle.adf_format.specs.RuleNumbers.{IsRule}
 use Rattle.adf_format.specs.Tree.{Tree, IsTree, IsNumbered}
 use Rattle.adf_format.specs.Placement.{Placement}
@@ -32,8 +32,7 @@ read_fault_line = codes "E02 ReadFault" ++ 10 ∷ []
 
 -- the whole line was taken, and the report ends so; or the sink failed, and took some first bytes of it
 abbrev pub Ends : Report → List ℕ → Report → Option (List ℕ) → Option (List ℕ) → ℕ → ℕ → Type 0
-Ends wanted line result taken now faults later =
-    ((result ≡ wanted) × Appends taken now line) ⊎ ((result ≡ ended.SinkFault) × Rose faults later × AppendsPart taken now line)
+Ends wanted line result taken now faults later = EndsWith ended.SinkFault wanted line result taken now faults later
 
 -- ---- the linter's verdict
 

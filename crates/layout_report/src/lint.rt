@@ -1,6 +1,6 @@
 //! The report on a linter's verdict.
 
-ghost use Rattle.std.specs.Prelude.{◌≡◌, ◌⊎◌, ◌+◌, ◌*◌, length, IfOk, IfErr};
+ghost use Rattle.std.specs.Prelude.{◌≡◌, ◌⊎◌, ◌≤◌, ◌+◌, ◌*◌, length, IfOk, IfErr};
 ghost use Rattle.cg_io.specs.Answers.{OnlyReads};
 ghost use Rattle.cg_io.specs.Blocks.{ReadsFew};
 ghost use Rattle.layout_lint.specs.Told.{Told};
@@ -50,7 +50,8 @@ fn report_of(verdict: &Verdict) -> Report
 
 // Says a verdict, if there is memory for its line.
 fn say_verdict<O: Sink>(alloc: Global, verdict: &Verdict, output: &mut O) -> Report
-    ensures { Ends (verdict_report verdict.now) (verdict_line verdict.now) result (O.taken output.old) (O.taken output.new) (O.faults output.old) (O.faults output.new) ⊎ ((result ≡ Report.Memory) × (output.new ≡ output.old)) }
+    ensures says { Ends (verdict_report verdict.now) (verdict_line verdict.now) result (O.taken output.old) (O.taken output.new) (O.faults output.old) (O.faults output.new) ⊎ ((result ≡ Report.Memory) × (output.new ≡ output.old)) }
+    ensures later { O.faults output.old ≤ O.faults output.new }
 {
     match verdict_line(alloc, verdict) {
         Ok(line) => say(output, line.as_bytes(), report_of(verdict)),
@@ -61,6 +62,7 @@ fn say_verdict<O: Sink>(alloc: Global, verdict: &Verdict, output: &mut O) -> Rep
 /// Says what the linter finds of the file of a device, which is given back: one line. Nothing is written.
 pub fn lint_file<D: Device, O: Sink>(alloc: Global, device: D, output: &mut O) -> (D, Report)
     ensures says { Says (Linted (D.state device) (D.state result.0)) (O.taken output.old) (O.taken output.new) (O.faults output.old) (O.faults output.new) result.1 }
+    ensures later { O.faults output.old ≤ O.faults output.new }
     ensures effect { OnlyReads (D.state device) (D.state result.0) }
     ensures few { Told (D.state device).held (λ image. ReadsFew (8 * length image + 16) (D.state device) (D.state result.0)) }
 {

@@ -1,6 +1,6 @@
 //! The map of a file: its extents by place, each with the path of its node.
 
-ghost use Rattle.std.specs.Prelude.{◌≡◌, ◌+◌, ◌*◌, ◌^◌, Bool, length, map, IfOk, IfErr};
+ghost use Rattle.std.specs.Prelude.{◌≡◌, ◌≤◌, ◌+◌, ◌*◌, ◌^◌, Bool, length, map, IfOk, IfErr};
 ghost use Rattle.std.specs.List.{All};
 ghost use Rattle.cg_io.specs.Answers.{OnlyReads};
 ghost use Rattle.cg_io.specs.Blocks.{ReadsFew};
@@ -78,7 +78,8 @@ fn say_extents<O: Sink>(
     requires linked { AreLinked (map node_place nodes.now) }
     requires named { length names.now ≡ length nodes.now }
     requires there { All (IsThere (length nodes.now)) owned.now }
-    ensures { Says (Listed nodes.now names.now owned.now end) (O.taken output.old) (O.taken output.new) (O.faults output.old) (O.faults output.new) result }
+    ensures says { Says (Listed nodes.now names.now owned.now end) (O.taken output.old) (O.taken output.new) (O.faults output.old) (O.faults output.new) result }
+    ensures later { O.faults output.old ≤ O.faults output.new }
 {
     for k in 0..owned.len() {
         let line = match line_of(alloc, nodes, names, &owned[k]) {
@@ -110,6 +111,7 @@ fn map_sound<B: Blocks, O: Sink>(
     requires sound { Told (B.state blocks.old).held (λ image. (format : Format) × (wide : Bool) × IsLaidOutAs image (map node_place nodes.now) gaps.now end format wide) }
     ensures layer { B.is_sound blocks.new }
     ensures says { Says (Mapped (B.state blocks.old) (B.state blocks.new)) (O.taken output.old) (O.taken output.new) (O.faults output.old) (O.faults output.new) result }
+    ensures later { O.faults output.old ≤ O.faults output.new }
     ensures effect { ReadsFew (4 * 2 ^ 44 + 35) (B.state blocks.old) (B.state blocks.new) }
     ensures few { Told (B.state blocks.old).held (λ image. ReadsFew (4 * length image + 35) (B.state blocks.old) (B.state blocks.new)) }
 {
@@ -127,6 +129,7 @@ fn map_blocks<B: Blocks, O: Sink>(alloc: Global, blocks: &mut B, output: &mut O)
     requires { B.is_sound blocks.old }
     ensures layer { B.is_sound blocks.new }
     ensures says { Says (Mapped (B.state blocks.old) (B.state blocks.new)) (O.taken output.old) (O.taken output.new) (O.faults output.old) (O.faults output.new) result }
+    ensures later { O.faults output.old ≤ O.faults output.new }
     ensures effect { ReadsFew (12 * 2 ^ 44 + 51) (B.state blocks.old) (B.state blocks.new) }
     ensures few { Told (B.state blocks.old).held (λ image. ReadsFew (12 * length image + 51) (B.state blocks.old) (B.state blocks.new)) }
 {
@@ -149,6 +152,7 @@ fn map_blocks<B: Blocks, O: Sink>(alloc: Global, blocks: &mut B, output: &mut O)
 /// gets the line of that rule. Nothing is written.
 pub fn map_file<D: Device, O: Sink>(alloc: Global, device: D, output: &mut O) -> (D, Report)
     ensures says { Says (Mapped (D.state device) (D.state result.0)) (O.taken output.old) (O.taken output.new) (O.faults output.old) (O.faults output.new) result.1 }
+    ensures later { O.faults output.old ≤ O.faults output.new }
     ensures effect { OnlyReads (D.state device) (D.state result.0) }
     ensures few { Told (D.state device).held (λ image. ReadsFew (12 * length image + 51) (D.state device) (D.state result.0)) }
 {

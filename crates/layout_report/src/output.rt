@@ -1,6 +1,6 @@
 //! Lines that end a report.
 
-ghost use Rattle.std.specs.Prelude.{◌≡◌, ◌⊎◌};
+ghost use Rattle.std.specs.Prelude.{◌≡◌, ◌⊎◌, ◌≤◌};
 ghost use Rattle.std.specs.Io.KnownBytes.{Appends};
 ghost use Rattle.cg_io.specs.Cause.{Rose};
 ghost use Rattle.session.specs.Printed.{AppendsPart};
@@ -33,7 +33,8 @@ pub fn say_read_fault<O: Sink>(output: &mut O) -> Report
 
 /// Says that a rule is broken, if there is memory for its line.
 pub fn say_fault<O: Sink>(alloc: Global, rule: u8, place: u64, output: &mut O) -> Report
-    ensures { Ends Report.Broken (fault_line rule place) result (O.taken output.old) (O.taken output.new) (O.faults output.old) (O.faults output.new) ⊎ ((result ≡ Report.Memory) × (output.new ≡ output.old)) }
+    ensures says { Ends Report.Broken (fault_line rule place) result (O.taken output.old) (O.taken output.new) (O.faults output.old) (O.faults output.new) ⊎ ((result ≡ Report.Memory) × (output.new ≡ output.old)) }
+    ensures later { O.faults output.old ≤ O.faults output.new }
 {
     match fault_line(alloc, rule, place) {
         Ok(line) => say(output, line.as_bytes(), Report::Broken),
@@ -43,7 +44,8 @@ pub fn say_fault<O: Sink>(alloc: Global, rule: u8, place: u64, output: &mut O) -
 
 /// Says why the work ended early.
 pub fn say_refusal<O: Sink>(alloc: Global, error: AdfError, output: &mut O) -> Report
-    ensures { Refuses error result (O.taken output.old) (O.taken output.new) (O.faults output.old) (O.faults output.new) ⊎ ((result ≡ Report.Memory) × (output.new ≡ output.old)) }
+    ensures says { Refuses error result (O.taken output.old) (O.taken output.new) (O.faults output.old) (O.faults output.new) ⊎ ((result ≡ Report.Memory) × (output.new ≡ output.old)) }
+    ensures later { O.faults output.old ≤ O.faults output.new }
 {
     match error {
         AdfError::Memory => Report::Memory,

@@ -8,7 +8,7 @@ use Rattle.cg_io.specs.Device.{DeviceState}
 use Rattle.plain_library.specs.declared.shelf.Place as code
 use Rattle.plain_library.specs.declared.shelf.Place.TheVariants as place
 use Rattle.plain_library.specs.declared.shelf.Slot.{Slot}
-use Rattle.plain_library.specs.Shelf.{PlaceState, SlotState, place_of, slot_of, has_name, device_in_place, device_at, changed_at, taken, IsNotTaken}
+use Rattle.plain_library.specs.Shelf.{PlaceState, SlotState, place_of, slot_of, has_name, device_in_place, device_at, changed_at, with_device, taken, IsNotTaken}
 use Rattle.plain_library.specs.Shelf.PlaceState.{There, Taken, Gone}
 
 module _ {D : Type 0} (state : D → DeviceState) where
@@ -113,8 +113,12 @@ module _ {D : Type 0} (state : D → DeviceState) where
   there slots name all None is = tt
   there slots name all (Some n) is = subst (λ k. IsSome (device_at (map (slot_of state) slots) k)) (let z : n - 0 ≡ n = omega arith in z) (found_there name slots 0 n all (sym is)).1
 
+-- what stands under a number, changed twice
+changed_twice : (slots : List SlotState) (n : ℕ) (first then : PlaceState → PlaceState) → changed_at then (changed_at first slots n) n ≡ changed_at (λ p. then (first p)) slots n
+changed_twice [] n first then = refl
+changed_twice (x ∷ xs) zero first then = refl
+changed_twice (x ∷ xs) (suc n) first then = ap (λ (l : List SlotState). x ∷ l) (changed_twice xs n first then)
+
 -- the device under a number, taken and then put back as another
-pub taken_and_put_back : (slots : List SlotState) (n : ℕ) (first then : PlaceState → PlaceState) → changed_at then (changed_at first slots n) n ≡ changed_at (λ p. then (first p)) slots n
-taken_and_put_back [] n first then = refl
-taken_and_put_back (x ∷ xs) zero first then = refl
-taken_and_put_back (x ∷ xs) (suc n) first then = ap (λ (l : List SlotState). x ∷ l) (taken_and_put_back xs n first then)
+pub taken_and_put_back : (slots : List SlotState) (n : ℕ) (device : DeviceState) → with_device (changed_at taken slots n) n device ≡ with_device slots n device
+taken_and_put_back slots n device = changed_twice slots n taken (λ was. There device)

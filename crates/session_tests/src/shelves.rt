@@ -56,6 +56,14 @@ fn is_empty_at(shelf: &mut Shelf<MemoryDevice>, number: u32) -> bool
     shelf.take(number).is_none()
 }
 
+// Whether a device is discarded, or none is.
+fn discards(shelf: &mut Shelf<MemoryDevice>, number: u32, wanted: bool) -> bool
+    requires { IsShelf shelf.old }
+    ensures { IsShelf shelf.new }
+{
+    shelf.discard(number) == wanted
+}
+
 #[test]
 fn a_shelf_hands_out_each_name_and_each_device_once(rt: HostRuntime) -> Result<(), Fail> {
     let alloc = rt.alloc();
@@ -69,6 +77,23 @@ fn a_shelf_hands_out_each_name_and_each_device_once(rt: HostRuntime) -> Result<(
     assert!(rt; is_empty_at(&mut shelf, 2));
     assert!(rt; comes_back(&mut shelf, 1, b"b"));
     assert!(rt; is_empty_at(&mut shelf, 1));
+    assert!(rt; is_number_of(&shelf, b"b", Some(1)));
+    Ok(())
+}
+
+#[test]
+fn a_discarded_name_is_free_and_its_number_is_not(rt: HostRuntime) -> Result<(), Fail> {
+    let alloc = rt.alloc();
+    let mut shelf = Shelf::new(alloc);
+    assert!(rt; adds(alloc, &mut shelf, b"a", b"1", Ok(0))?);
+    assert!(rt; adds(alloc, &mut shelf, b"b", b"22", Ok(1))?);
+    assert!(rt; discards(&mut shelf, 0, true));
+    assert!(rt; discards(&mut shelf, 0, false));
+    assert!(rt; discards(&mut shelf, 2, false));
+    assert!(rt; is_number_of(&shelf, b"a", None));
+    assert!(rt; is_empty_at(&mut shelf, 0));
+    assert!(rt; adds(alloc, &mut shelf, b"a", b"333", Ok(2))?);
+    assert!(rt; is_number_of(&shelf, b"a", Some(2)));
     assert!(rt; is_number_of(&shelf, b"b", Some(1)));
     Ok(())
 }

@@ -2,12 +2,13 @@
 use Rattle.std.proofs.Common.{◌≡◌, ℕ, ◌≤◌, zero, suc, List, [], ◌∷◌, length, map, refl, sym, ◌∙◌, ap, subst}
 use Rattle.std.specs.Prelude.{Option, Some, None}
 use Rattle.std.specs.Io.KnownBytes.{Consumes, IsAtEnd}
-use Rattle.adf_model.specs.Slots.{Files, Device, Devices, device_at, entry_files, names_there}
-use Rattle.adf_model.specs.Steps.{NoneFell, NoCountFell}
+use Rattle.adf_model.specs.Slots.{Files, Device, Devices, device_at, entry_files, names_there, slot_at, name_there}
+use Rattle.adf_model.specs.Steps.{NoneFell, NoCountFell, AllLaidOut, IsLaidOutAt}
 use Rattle.adf_model.proofs.Answering.LayoutLemmas.{laid_out_at_entry}
 use Rattle.cg_io.specs.Cause.{Rose}
-use Rattle.plain_library.specs.Library.{shelf_files, shelf_devices, standing_name, unplaced}
-use Rattle.plain_library.specs.Shelf.{SlotState}
+use Rattle.plain_library.specs.Library.{entry_slot, shelf_file, shelf_files, shelf_devices, standing_name, unplaced}
+use Rattle.plain_library.specs.Shelf.{PlaceState, SlotState}
+use Rattle.plain_library.specs.Shelf.PlaceState.{There, Taken, Gone}
 use Rattle.session.proofs.Faults.{ran_counts, ran_laid_out, ran_names}
 use Rattle.session.specs.Session.{HasRun, IsBounded}
 use Rattle.session.specs.declared.session.Ended.{Ended}
@@ -20,16 +21,34 @@ unplaced_at (device ∷ devices) zero = refl
 unplaced_at (device ∷ devices) (suc k) = unplaced_at devices k
 
 fell_unplaced : (a b : Device) → NoneFell a b → NoneFell a (unplaced b)
-fell_unplaced a b fell = record { faults = fell.faults; lost = fell.lost; writes = fell.writes }
+fell_unplaced a b fell = record { faults = fell.faults; lost = fell.lost; reads = fell.reads; writes = fell.writes }
 
 counts_left : (before now new : Devices) → new ≡ map unplaced now → NoCountFell before now → NoCountFell before new
 counts_left before now new left counts k =
     subst (λ (ds : Devices). NoneFell (device_at before k) (device_at ds k)) (sym left) (subst (NoneFell (device_at before k)) (sym (unplaced_at now k)) (fell_unplaced (device_at before k) (device_at now k) (counts k)))
 
-entry_names : (names : List (Option (List ℕ))) → names_there (entry_files names) ≡ names
+entry_names : (slots : List SlotState) → names_there (shelf_files slots) ≡ map standing_name slots
 entry_names [] = refl
-entry_names (None ∷ names) = ap (λ (l : List (Option (List ℕ))). None ∷ l) (entry_names names)
-entry_names (Some name ∷ names) = ap (λ (l : List (Option (List ℕ))). Some name ∷ l) (entry_names names)
+entry_names (slot ∷ slots) = ap (λ (l : List (Option (List ℕ))). name_there (shelf_file slot) ∷ l) (entry_names slots) ∙ ap (λ (o : Option (List ℕ)). o ∷ map standing_name slots) (by_place slot.place)
+  where
+    by_place : (there : PlaceState) → name_there (record { name = slot.name; slot = entry_slot there }) ≡ standing_name (record { name = slot.name; place = there })
+    by_place (There device) = refl
+    by_place Taken = refl
+    by_place (Gone last) = refl
+
+-- at first no tree is known
+laid_at_entry : (slots : List SlotState) (devices : Devices) → AllLaidOut (shelf_files slots) devices
+laid_at_entry slots devices number = by_list slots number
+  where
+    by_place : (there : PlaceState) → IsLaidOutAt (entry_slot there) (device_at devices number)
+    by_place (There device) = tt
+    by_place Taken = tt
+    by_place (Gone last) = tt
+
+    by_list : (some : List SlotState) (k : ℕ) → IsLaidOutAt (slot_at (shelf_files some) k) (device_at devices number)
+    by_list [] k = tt
+    by_list (slot ∷ some) zero = by_place slot.place
+    by_list (slot ∷ some) (suc k) = by_list some k
 
 -- what was told of the run, once all files are closed
 pub ended_so : (how : Ended) (old new : List SlotState) (files left : Files) (devices now_devices : Devices) (before now : Streams)
@@ -42,9 +61,9 @@ ended_so how old new files left devices now_devices before now files_are devices
   files = left;
   devices = now_devices;
   run = run;
-  laid_out = ran_laid_out (shelf_files old) left (shelf_devices old) now_devices run.turns run.ran (laid_out_at_entry (map standing_name old) (shelf_devices old));
+  laid_out = ran_laid_out (shelf_files old) left (shelf_devices old) now_devices run.turns run.ran (laid_at_entry old (shelf_devices old));
   left = left_are;
-  names = names_are ∙ ran_names (shelf_files old) left (shelf_devices old) now_devices run.turns run.ran ∙ entry_names (map standing_name old);
+  names = names_are ∙ ran_names (shelf_files old) left (shelf_devices old) now_devices run.turns run.ran ∙ entry_names old;
   counts = counts_left (shelf_devices old) now_devices (shelf_devices new) left_are (ran_counts (shelf_files old) left (shelf_devices old) now_devices run.turns run.ran);
   bound = bound;
   end = end;

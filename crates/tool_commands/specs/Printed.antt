@@ -1,8 +1,6 @@
 -- What was printed, and how a run ends then.
-use Rattle.std.specs.Prelude.{◌≡◌, ◌⊎◌, ℕ, List, [], ◌∷◌, ◌++◌, Option}
-use Rattle.std.specs.Io.KnownBytes.{Appends}
-use Rattle.cg_io.specs.Cause.{Rose}
-use Rattle.session.specs.Printed.{AppendsPart}
+use Rattle.std.specs.Prelude.{ℕ, List, [], ◌∷◌, ◌++◌, Option}
+use Rattle.session.specs.Printed as printed
 use Rattle.tool_commands.specs.declared.status.Status.{Status}
 use Rattle.tool_commands.specs.declared.status.Status.TheVariants as status
 
@@ -12,5 +10,4 @@ line text = text ++ 10 ∷ []
 
 -- the whole text was taken, and the run ends with this status; or the sink failed, and took some first bytes of it
 abbrev pub EndsWith : Status → List ℕ → Status → Option (List ℕ) → Option (List ℕ) → ℕ → ℕ → Type 0
-EndsWith wanted text result taken now faults later =
-    ((result ≡ wanted) × Appends taken now text) ⊎ ((result ≡ status.SinkFault) × Rose faults later × AppendsPart taken now text)
+EndsWith wanted text result taken now faults later = printed.EndsWith status.SinkFault wanted text result taken now faults later

@@ -1,18 +1,18 @@
 -- What the commands print, how they end, and what they leave.
-use Rattle.std.specs.Prelude.{◌≡◌, ℕ, ◌<◌, ◌≤◌, ⊤, Bool, false, List, [], ◌∷◌, length, map, codes, Some, None, Option, is_some, take, if◌then◌else◌, ◌&&◌, not, Result, Ok, Err}
+use Rattle.std.specs.Prelude.{◌≡◌, ℕ, ◌<◌, ◌≤◌, ⊤, Bool, false, List, [], ◌∷◌, length, map, codes, Some, None, Option, IsSome, is_some, take, if◌then◌else◌, ◌&&◌, not, Result, Ok, Err}
 use Rattle.std.specs.List.{list_all}
 use Rattle.std.specs.Str.{bytes_eq}
 use Rattle.std.specs.Io.KnownBytes.{Consumes, IsAtEnd}
 use Rattle.adf_model.specs.declared.error.AdfError.{AdfError}
 use Rattle.adf_model.specs.declared.error.AdfError.TheVariants as error
 use Rattle.adf_model.specs.Slots.{Files, Devices}
+use Rattle.adf_model.specs.Counts as device
+use Rattle.adf_model.specs.Counts.{Rose, OnlyReads}
 use Rattle.adf_model.specs.Steps.{AllLaidOut, NoCountFell}
-use Rattle.cg_io.specs.Cause.{Rose}
 use Rattle.cg_io.specs.Device.{DeviceState}
 use Rattle.plain_library.specs.Fresh.{MakesFresh}
 use Rattle.plain_library.specs.Library.{shelf_files, shelf_devices, standing_name, unplaced}
 use Rattle.plain_library.specs.Shelf.{SlotState, number_in, device_at, with_device}
-use Rattle.layout_lint.specs.Owners.{OnlyReads}
 use Rattle.layout_report.specs.Reports.{Says, Linted, Mapped}
 use Rattle.layout_report.specs.declared.Report.{Report}
 use Rattle.layout_report.specs.declared.Report.TheVariants as report
@@ -67,11 +67,11 @@ one_file_wanted words slots = asks.Nothing
 abbrev pub wanted : List (List ℕ) → List SlotState → Wanted
 wanted words slots = if is_session words slots then asks.Session else one_file_wanted words slots
 
--- a number that is asked for is one of the shelf
+-- under a number that is asked for a device stands
 abbrev pub IsOnShelf : Wanted → List SlotState → Type 0
-IsOnShelf (asks.Init number) slots = number < length slots
-IsOnShelf (asks.Lint number) slots = number < length slots
-IsOnShelf (asks.Map number) slots = number < length slots
+IsOnShelf (asks.Init number) slots = IsSome (device_at slots number)
+IsOnShelf (asks.Lint number) slots = IsSome (device_at slots number)
+IsOnShelf (asks.Map number) slots = IsSome (device_at slots number)
 IsOnShelf other slots = ⊤
 
 -- ---- init
@@ -89,10 +89,10 @@ init_status (Ok done) = status.Done
 init_status (Err error.NotEmpty) = status.No
 init_status (Err other) = status.DeviceFault
 
--- what `init` did to a device and to the sink, by how it ended
+-- what `init` did to a device, of which no count fell, and to the sink, by how it ended
 abbrev pub InitEnds : Status → DeviceState → DeviceState → Option (List ℕ) → Option (List ℕ) → ℕ → ℕ → Type 0
 InitEnds result old new taken now faults later =
-    (made : Result Unit AdfError) × MakesFresh made old new × EndsWith (init_status made) (init_line made) result taken now faults later
+    (made : Result Unit AdfError) × MakesFresh made old new × device.NoCountFell old new × EndsWith (init_status made) (init_line made) result taken now faults later
 
 -- ---- reports on one file
 
@@ -103,16 +103,17 @@ report_status report.DeviceFault = status.DeviceFault
 report_status report.SinkFault = status.SinkFault
 report_status report.Memory = status.Memory
 
--- What a report on the file of a device printed, and how it ended; nothing was written.
+-- What a report on the file of a device printed, and how it ended; nothing was written, and no count fell.
 pub record Reports (says : DeviceState → DeviceState → Report → List ℕ → Type 0) (result : Status) (old new : DeviceState) (taken now : Option (List ℕ)) (faults later : ℕ) : Type 0 where
   pub how : Report
   pub status : result ≡ report_status how
   pub said : Says (says old new) taken now faults later how
+  pub rises : faults ≤ later
   pub reads : OnlyReads old new
 
 -- a command on the device of a number did this to it, and all other devices are as they were
 abbrev pub OnDevice : ℕ → (DeviceState → DeviceState → Type 0) → List SlotState → List SlotState → Type 0
-OnDevice n Did old new = (device : DeviceState) × (after : DeviceState) × (device_at old n ≡ Some device) × (new ≡ with_device old n (Some after)) × Did device after
+OnDevice n Did old new = (device : DeviceState) × (after : DeviceState) × (device_at old n ≡ Some device) × (new ≡ with_device old n after) × Did device after
 
 -- ---- sessions
 

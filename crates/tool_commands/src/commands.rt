@@ -1,10 +1,10 @@
 //! The commands.
 
-ghost use Rattle.std.specs.Prelude.{◌≡◌, ◌<◌, length, map, string_bytes};
+ghost use Rattle.std.specs.Prelude.{◌≡◌, IsSome, map, string_bytes};
 ghost use Rattle.tool_commands.specs.Printed.{EndsWith};
 ghost use Rattle.tool_commands.specs.Tool.{InitEnds, OnDevice, Reports, RunEnds, SessionEnds, init_line, init_status, report_status, session_status, usage, wanted};
 ghost use Rattle.layout_report.specs.Reports.{Linted, Mapped};
-ghost use Rattle.plain_library.specs.Shelf.{slots_of, IsShelf, IsWhole};
+ghost use Rattle.plain_library.specs.Shelf.{slots_of, device_at, IsShelf, IsWhole};
 
 use crate::status::Status;
 use crate::words::{Wanted, read_words};
@@ -62,8 +62,9 @@ fn init<D: Device, O: Sink>(device: &mut D, output: &mut O) -> Status
 fn init_on<D: Device, O: Sink>(number: u32, shelf: &mut Shelf<D>, output: &mut O) -> Status
     requires whole { IsWhole shelf.old }
     requires shelf { IsShelf shelf.old }
-    requires there { number < length (slots_of D.state shelf.old) }
+    requires there { IsSome (device_at (slots_of D.state shelf.old) number) }
     ensures init { OnDevice number (λ device after. InitEnds result device after (O.taken output.old) (O.taken output.new) (O.faults output.old) (O.faults output.new)) (slots_of D.state shelf.old) (slots_of D.state shelf.new) }
+    ensures whole { IsWhole shelf.new }
     ensures shelf { IsShelf shelf.new }
 {
     let Some(taken) = shelf.take(number) else {
@@ -98,8 +99,9 @@ fn lint_on<D: Device, O: Sink>(
 ) -> Status
     requires whole { IsWhole shelf.old }
     requires shelf { IsShelf shelf.old }
-    requires there { number < length (slots_of D.state shelf.old) }
+    requires there { IsSome (device_at (slots_of D.state shelf.old) number) }
     ensures lint { OnDevice number (λ device after. Reports Linted result device after (O.taken output.old) (O.taken output.new) (O.faults output.old) (O.faults output.new)) (slots_of D.state shelf.old) (slots_of D.state shelf.new) }
+    ensures whole { IsWhole shelf.new }
     ensures shelf { IsShelf shelf.new }
 {
     let Some(taken) = shelf.take(number) else {
@@ -120,8 +122,9 @@ fn map_on<D: Device, O: Sink>(
 ) -> Status
     requires whole { IsWhole shelf.old }
     requires shelf { IsShelf shelf.old }
-    requires there { number < length (slots_of D.state shelf.old) }
+    requires there { IsSome (device_at (slots_of D.state shelf.old) number) }
     ensures map { OnDevice number (λ device after. Reports Mapped result device after (O.taken output.old) (O.taken output.new) (O.faults output.old) (O.faults output.new)) (slots_of D.state shelf.old) (slots_of D.state shelf.new) }
+    ensures whole { IsWhole shelf.new }
     ensures shelf { IsShelf shelf.new }
 {
     let Some(taken) = shelf.take(number) else {
@@ -152,10 +155,12 @@ fn session_on<D: Device, I: Source, O: Sink>(
     input: &mut I,
     output: &mut O,
 ) -> Ended
-    requires { IsShelf shelf.old }
+    requires whole { IsWhole shelf.old }
+    requires shelf { IsShelf shelf.old }
     ensures session { SessionEnds result (slots_of D.state shelf.old) (slots_of D.state shelf.new)
         (record { left = I.left input.old; source_faults = I.faults input.old; taken = O.taken output.old; sink_faults = O.faults output.old })
         (record { left = I.left input.new; source_faults = I.faults input.new; taken = O.taken output.new; sink_faults = O.faults output.new }) }
+    ensures whole { IsWhole shelf.new }
     ensures shelf { IsShelf shelf.new }
 {
     let taken = replace(shelf, Shelf::new(alloc));
@@ -187,6 +192,7 @@ pub fn run_on<D: Device, I: Source, O: Sink>(
     ensures run { RunEnds (wanted (map string_bytes words.now) (slots_of D.state shelf.old)) result (slots_of D.state shelf.old) (slots_of D.state shelf.new)
         (record { left = I.left input.old; source_faults = I.faults input.old; taken = O.taken output.old; sink_faults = O.faults output.old })
         (record { left = I.left input.new; source_faults = I.faults input.new; taken = O.taken output.new; sink_faults = O.faults output.new }) }
+    ensures whole { IsWhole shelf.new }
     ensures shelf { IsShelf shelf.new }
 {
     match read_words(words, shelf) {
@@ -213,6 +219,7 @@ pub fn run_tool<I: Source, O: Sink>(
     ensures run { RunEnds (wanted (map string_bytes words.now) (slots_of state shelf.old)) result (slots_of state shelf.old) (slots_of state shelf.new)
         (record { left = I.left input.old; source_faults = I.faults input.old; taken = O.taken output.old; sink_faults = O.faults output.old })
         (record { left = I.left input.new; source_faults = I.faults input.new; taken = O.taken output.new; sink_faults = O.faults output.new }) }
+    ensures whole { IsWhole shelf.new }
     ensures shelf { IsShelf shelf.new }
 {
     run_on(alloc, words, shelf, input, output)

@@ -1,9 +1,9 @@
 //! What the words of the command line ask for.
 
-ghost use Rattle.std.specs.Prelude.{◌≡◌, ◌<◌, length, map, string_bytes, IfSome};
+ghost use Rattle.std.specs.Prelude.{◌≡◌, map, string_bytes, IfSome, IsSome};
 ghost use Rattle.std.specs.List.{list_all};
 ghost use Rattle.tool_commands.specs.Tool.{IsOnShelf, command_on, file_number, is_file_word, is_session, names_device, one_file_wanted, wanted};
-ghost use Rattle.plain_library.specs.Shelf.{slots_of, IsShelf};
+ghost use Rattle.plain_library.specs.Shelf.{slots_of, device_at, IsShelf, IsWhole};
 
 use cg_io::Device;
 use plain_library::Shelf;
@@ -31,9 +31,10 @@ fn may_name(word: &str) -> bool
 
 // The number of the device of a file, if the word may name one.
 fn file_number<D: Device>(shelf: &Shelf<D>, word: &str) -> Option<u32>
-    requires { IsShelf shelf.now }
+    requires whole { IsWhole shelf.now }
+    requires shelf { IsShelf shelf.now }
     ensures number { result ≡ file_number (slots_of D.state shelf.now) word.now }
-    ensures stands { IfSome result (λ n. n < length (slots_of D.state shelf.now)) }
+    ensures stands { IfSome result (λ n. IsSome (device_at (slots_of D.state shelf.now) n)) }
 {
     if may_name(word) {
         shelf.number_of(word.as_bytes())
@@ -59,7 +60,8 @@ fn command_on(command: &str, number: u32) -> Wanted
 
 // What is wanted where the words are not those of a session.
 fn one_file_wanted<D: Device>(words: &[String], shelf: &Shelf<D>) -> Wanted
-    requires { IsShelf shelf.now }
+    requires whole { IsWhole shelf.now }
+    requires shelf { IsShelf shelf.now }
     ensures wanted { result ≡ one_file_wanted (map string_bytes words.now) (slots_of D.state shelf.now) }
     ensures stands { IsOnShelf result (slots_of D.state shelf.now) }
 {
@@ -106,7 +108,8 @@ fn asks_session<D: Device>(words: &[String], shelf: &Shelf<D>) -> bool
 
 /// What the words ask for, by the names that stand on the shelf.
 pub fn read_words<D: Device>(words: &[String], shelf: &Shelf<D>) -> Wanted
-    requires { IsShelf shelf.now }
+    requires whole { IsWhole shelf.now }
+    requires shelf { IsShelf shelf.now }
     ensures wanted { result ≡ wanted (map string_bytes words.now) (slots_of D.state shelf.now) }
     ensures stands { IsOnShelf result (slots_of D.state shelf.now) }
 {
