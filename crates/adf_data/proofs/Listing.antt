@@ -6,7 +6,7 @@ use Rattle.std.specs.Prelude.{Option, Some, None, codes, option_map}
 use Rattle.std.specs.List.{AllByRecursion}
 use Rattle.cg_io.specs.Device.{bytes_at, GivesAt}
 use Rattle.adf_format.specs.Fields.{field}
-use Rattle.adf_format.specs.Pointer.{Pointer, To, Blank, pointer, PointsTo}
+use Rattle.adf_format.specs.Pointer.{Pointer, To, Blank, pointer, PointsTo, place_value}
 use Rattle.adf_format.specs.Parts.{IsFramed, SpellsChunk, SpellsChunkEntry, chunk_table_length}
 use Rattle.adf_format.specs.Placement.{NodeParts, ChunkPart}
 use Rattle.adf_format.specs.LaysOut.{HasChunkTable, chunk_pointer}
@@ -16,7 +16,6 @@ use Rattle.adf_format.proofs.FieldLaws.{inner_field, length-field}
 use Rattle.disk_ptr.specs.View.{view, place_of}
 use Rattle.disk_ptr.specs.declared.DiskPtr.{DiskPtr}
 use Rattle.disk_ptr.specs.declared.DiskPtr.TheVariants.{At}
-use Rattle.adf_format.specs.Pointer.{place_value}
 use Rattle.adf_format.specs.Pointer as spelled
 use Rattle.adf_model.proofs.Walks.WalkCounts.{place_small}
 use Rattle.adf_data.specs.declared.place.DataPlace.{DataPlace}

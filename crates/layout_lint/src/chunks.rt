@@ -1,6 +1,6 @@
 //! The chunks of a node's data, and the table of them.
 
-ghost use Rattle.std.specs.Prelude.{◌≡◌, ◌^◌, ◌+◌, ◌-◌, ◌*◌, ◌≤◌, ◌<◌, ◌==◌, ◌++◌, [], ◌∷◌, ◌++◌, ℕ, List, length, map, nat_lt, Some, None, IfOk, IfErr, IfSome, OnOk, option_map};
+ghost use Rattle.std.specs.Prelude.{◌≡◌, ◌^◌, ◌+◌, ◌-◌, ◌*◌, ◌≤◌, ◌<◌, ◌==◌, ◌++◌, [], ◌∷◌, ℕ, List, length, map, nat_lt, Some, None, IfOk, IfErr, IfSome, OnOk, option_map};
 ghost use Rattle.std.specs.List.{All};
 ghost use Rattle.cg_io.specs.Blocks.{ReadsFew};
 ghost use Rattle.adf_format.specs.Parts.{chunk_table_length};

@@ -7,14 +7,13 @@ use Rattle.std.specs.Str.{bytes_eq}
 use Rattle.std.proofs.lemmas.Slice.Eq.{bytes_eq-Decides}
 use Rattle.std.proofs.lemmas.Bool.Decides.{nat_tests}
 use Rattle.cg_io.specs.Cause.{raised}
-use Rattle.std.specs.Prelude.{Bool, true, false, not, ◌||◌, nat_lt, if◌then◌else◌, Option, Some, None, IfSome, option_map}
+use Rattle.std.specs.Prelude.{Bool, true, false, not, ◌||◌, nat_lt, if◌then◌else◌, Option, Some, None, IfSome, option_map, Result, Ok, Err, OnErr}
 use Rattle.adf_model.specs.Torn.{TornAt, block}
 use Rattle.adf_model.proofs.Basics.{not_false, not_true}
 use Rattle.cg_io.specs.Device.{DeviceState, bytes_at, overwritten, with_block, Tears, IsTorn}
 use Rattle.cg_io.proofs.Places.{length-overwritten, overwritten-below, overwritten-within, overwritten-above, length-bytes_at, get_or-bytes_at}
 use Rattle.cg_io.proofs.BlockLemmas.{Gives-torn}
 use Rattle.adf_model.specs.declared.error.AdfError.{AdfError}
-use Rattle.std.specs.Prelude.{Result, Ok, Err, OnErr}
 use Rattle.plain_library.specs.Committing.{mixed, has_changed, changed_blocks, LeavesTorn, NoCountFell}
 
 -- bytes that are all there

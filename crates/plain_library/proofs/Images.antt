@@ -3,11 +3,10 @@ use Rattle.std.proofs.Common.{◌≡◌, ℕ, suc, ◌+◌, ◌*◌, ◌-◌, �
 use Rattle.std.proofs.lemmas.List.{length-replicate}
 use Rattle.adf_format.specs.Hex.{hex_text}
 use Rattle.adf_format.specs.Pointer.{To, pointer_text}
-use Rattle.adf_format.specs.Records.{SubNodes, head_text, end_tag}
+use Rattle.adf_format.specs.Records.{SubNodes, head_text, end_tag, node_text, entry_text}
 use Rattle.adf_format.specs.Spelled.{framed_text}
 use Rattle.std.specs.Prelude.{◌∷◌, ◌<◌, ◌^◌, Option, Some, None, IfSome, false}
 use Rattle.adf_format.specs.Fields.{text_field}
-use Rattle.adf_format.specs.Records.{node_text, entry_text}
 use Rattle.adf_model.specs.Creation.{write, all_written, empty_node, fill_writes, used_entries, unused_entries}
 use Rattle.plain_library.specs.declared.open_file.Table.{Table}
 use Rattle.plain_library.specs.declared.open_file.Row.{Row}

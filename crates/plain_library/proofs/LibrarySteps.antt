@@ -11,7 +11,6 @@ use Rattle.adf_model.specs.declared.tree.Reply.{Reply}
 use Rattle.adf_model.specs.Slots.{Files, Devices, device_at, slot_at, is_gone, no_device}
 use Rattle.adf_model.specs.Steps.{Opened, Closed, Discarded, Asked, Changed, Fresh, NoneFell, OnlyRead, IsLaidOutAt}
 use Rattle.adf_model.specs.Runs.{KeepsLayouts}
-use Rattle.adf_model.proofs.Answering.StandingLaws.{opening_anyway, closing_anyway}
 use Rattle.adf_model.proofs.Answering.StandingLaws.{opening_anyway, closing_anyway, discarding_anyway}
 use Rattle.cg_io.specs.Device.{DeviceState}
 use Rattle.session.specs.Calls.{PlainMakes}

@@ -2,9 +2,8 @@
 
 ghost use Rattle.std.specs.Prelude.{◌≡◌, ◌≤◌, ◌^◌, false, Some, None, IfOk, IfErr};
 ghost use Rattle.adf_format.specs.Tree.{fresh_root, fresh_tree};
-ghost use Rattle.adf_format.specs.Fresh.{fresh_placement};
+ghost use Rattle.adf_format.specs.Fresh.{fresh_placement, fresh_block};
 ghost use Rattle.adf_format.specs.HeapRule.{no_parts};
-ghost use Rattle.adf_format.specs.Fresh.{fresh_block};
 ghost use Rattle.plain_library.specs.Core.{node_of, parts_in, core_tree, core_placement, IsCore};
 
 use crate::fresh::first_block;

@@ -1,6 +1,5 @@
 -- What is known of a node that is a text.
-use Rattle.std.proofs.Common.{◌≡◌, ap, refl, arith, ◌≤◌, ℕ, Bool, true, false, List, []}
-use Rattle.std.proofs.Common.{Decides}
+use Rattle.std.proofs.Common.{◌≡◌, ap, refl, arith, ◌≤◌, ℕ, Bool, true, false, List, [], Decides}
 use Rattle.std.specs.Prelude.{◌&&◌, ◌||◌, ◌==◌, is_some, length, nat_le, if◌then◌else◌, unwrap_or, Contains}
 use Rattle.std.proofs.lemmas.Bool.Decides.{same_from_decides}
 use Rattle.adf_format.specs.declared.types.DataType.TheVariants.{C1}

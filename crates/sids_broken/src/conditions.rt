@@ -10,8 +10,7 @@ ghost use Rattle.sids_views.specs.Views.{node_there, given, first_called};
 ghost use Rattle.sids_rules.specs.Values.{text_of, is_word};
 ghost use Rattle.sids_rules.specs.Words.{without_padding};
 ghost use Rattle.sids_rules.specs.Terms.{has_child};
-ghost use Rattle.sids_rules.specs.Rules.{are_points_off, count_points, point_names};
-ghost use Rattle.sids_rules.specs.Rules.{is_point_range, is_point_list};
+ghost use Rattle.sids_rules.specs.Rules.{are_points_off, count_points, point_names, is_point_range, is_point_list};
 ghost use Rattle.sids_broken.specs.NodeRules.{are_points_bad};
 ghost use Rattle.sids_broken.specs.Shown.{shows_points};
 

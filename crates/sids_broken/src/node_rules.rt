@@ -4,9 +4,8 @@ ghost use Rattle.std.specs.Prelude.{◌≡◌, ◌≤◌, ◌∷◌, [], ◌*◌
 ghost use Rattle.adf_format.specs.declared.types.DataType.TheVariants.{R4, R8, C1};
 ghost use Rattle.adf_model.specs.Causes.{OnlyAsks};
 ghost use Rattle.adf_model.specs.Slots.{IsTold};
-ghost use Rattle.sids_views.specs.Asks.{IsValueOr, HasAskCause, IsPlain};
+ghost use Rattle.sids_views.specs.Asks.{IsValueOr, HasAskCause, IsPlain, IsThere};
 ghost use Rattle.sids_tables.specs.declared.labels.LabelKind.TheVariants.{CgnsLibraryVersion, ZoneType};
-ghost use Rattle.sids_views.specs.Asks.{IsThere};
 ghost use Rattle.sids_views.specs.Views.{node_there, count_of, children_there};
 ghost use Rattle.sids_rules.specs.Values.{is_array_of, is_ints_of};
 ghost use Rattle.sids_rules.specs.Rules.{has_type, is_filled, is_allowed, place_kind, is_no_text};

@@ -2,8 +2,7 @@
 
 ghost use Rattle.std.specs.Prelude.{◌≡◌, ◌≤◌};
 ghost use Rattle.adf_format.specs.Names.{is_same_type};
-ghost use Rattle.sids_broken.specs.Shown.{shows_type, shows_array, shows_ints, shows_ints_of};
-ghost use Rattle.sids_broken.specs.Shown.{shows_filled, shows_text, shown_index};
+ghost use Rattle.sids_broken.specs.Shown.{shows_type, shows_array, shows_ints, shows_ints_of, shows_filled, shows_text, shown_index};
 
 use adf_model::DataType;
 use sids_views::NodeView;

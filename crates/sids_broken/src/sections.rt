@@ -1,7 +1,6 @@
 //! The numbers of sections of elements, and their children.
 
-ghost use Rattle.std.specs.Prelude.{◌≡◌, ◌≤◌, true, Some};
-ghost use Rattle.std.specs.Prelude.{codes};
+ghost use Rattle.std.specs.Prelude.{◌≡◌, ◌≤◌, true, Some, codes};
 ghost use Rattle.std.specs.List.{AllByRecursion};
 ghost use Rattle.adf_format.specs.Names.{product};
 ghost use Rattle.adf_model.specs.Edits.{size_of, size_limit};
@@ -11,8 +10,7 @@ ghost use Rattle.sids_views.specs.Asks.{IsValueOr, HasAskCause, IsPlain};
 ghost use Rattle.sids_tables.specs.declared.labels.LabelKind.TheVariants.{DataArray};
 ghost use Rattle.sids_views.specs.Views.{node_there, of_that_kind, first_called};
 ghost use Rattle.sids_rules.specs.Values.{is_ints, ints_there};
-ghost use Rattle.sids_rules.specs.Terms.{section_head, is_head, section_range, is_range};
-ghost use Rattle.sids_rules.specs.Terms.{connectivity_child};
+ghost use Rattle.sids_rules.specs.Terms.{section_head, is_head, section_range, is_range, connectivity_child};
 ghost use Rattle.sids_broken.specs.Reading.{is_wide};
 ghost use Rattle.sids_broken.specs.Pairs.{ints_with, range_in, range_there};
 

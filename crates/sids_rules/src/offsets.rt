@@ -1,12 +1,8 @@
 //! Rules on the numbers of sections whose elements begin where a list of offsets says.
 
-ghost use Rattle.std.specs.Prelude.{◌≡◌, ◌↔◌, ◌≤◌, ◌<◌, ◌-◌, pos, IsTrue, Some, false, length, slice_get, Any};
-ghost use Rattle.std.specs.Prelude.{◌+◌, slice_index_or, unsigned_abs, drop, take};
+ghost use Rattle.std.specs.Prelude.{◌≡◌, ◌↔◌, ◌≤◌, ◌<◌, ◌-◌, pos, IsTrue, Some, false, length, slice_get, Any, ◌+◌, slice_index_or, unsigned_abs, drop, take};
 ghost use Rattle.sids_rules.specs.Sections.{IsOutside};
-ghost use Rattle.sids_rules.specs.Offsets.{BreaksOffsetSize, BreaksOffsetNumbers, BreaksMixedPieces};
-ghost use Rattle.sids_rules.specs.Offsets.{BreaksPieceNodes, BreaksFaceNumbers, AreOffsets, NeverFall};
-ghost use Rattle.sids_rules.specs.Offsets.{SomePiece, IsMixedPiece, IsNoFace, LiesIn, piece_at};
-ghost use Rattle.sids_rules.specs.Offsets.{HasBadNode, offset_at};
+ghost use Rattle.sids_rules.specs.Offsets.{BreaksOffsetSize, BreaksOffsetNumbers, BreaksMixedPieces, BreaksPieceNodes, BreaksFaceNumbers, AreOffsets, NeverFall, SomePiece, IsMixedPiece, IsNoFace, LiesIn, piece_at, HasBadNode, offset_at};
 
 use crate::sections::{fixed_nodes, has_outside};
 

@@ -5,14 +5,13 @@ use Rattle.adf_format.specs.Tree.{Node, IsNode, is_link}
 use Rattle.adf_model.specs.declared.error.AdfError.{AdfError}
 use Rattle.adf_model.specs.declared.tree.NodeId.{NodeId}
 use Rattle.adf_model.specs.Tests.{and_then}
-use Rattle.adf_model.specs.Slots.{Files, AreTrees}
+use Rattle.adf_model.specs.Slots.{Files, AreTrees, Devices, IsTold, slot_at, is_gone}
 use Rattle.adf_model.specs.Follow.{Spot, follow, link_text_at, text_of_open, text_in}
 use Rattle.adf_model.proofs.Basics.{not_there, not_true, same_Some}
 use Rattle.adf_model.proofs.Following.ReachLemmas.{follow_well}
 use Rattle.adf_format.specs.declared.types.DataType.{DataType}
 use Rattle.adf_format.specs.declared.types.DataType.TheVariants.{Lk}
 use Rattle.adf_format.specs.Names.{is_lk}
-use Rattle.adf_model.specs.Slots.{Devices, IsTold, slot_at, is_gone}
 use Rattle.adf_model.specs.Causes.{OnlyAsks}
 use Rattle.sids_views.specs.Asks.{IsThere, IsPlain, IsValueOr}
 use Rattle.sids_views.specs.Views.{target_of, reached, is_link_there}

@@ -1,7 +1,6 @@
 //! One question about a node.
 
-ghost use Rattle.std.specs.Prelude.{◌≡◌, ◌≤◌, is_some, true, unwrap_or, option_map, length};
-ghost use Rattle.std.specs.Prelude.{[], IfOk, IfSome};
+ghost use Rattle.std.specs.Prelude.{◌≡◌, ◌≤◌, is_some, true, unwrap_or, option_map, length, [], IfOk, IfSome};
 ghost use Rattle.std.specs.List.{AllByRecursion};
 ghost use Rattle.adf_model.specs.Edits.{size_of, size_limit};
 ghost use Rattle.adf_model.specs.Slots.{IsTold, AreTrees};

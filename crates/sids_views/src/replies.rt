@@ -2,8 +2,7 @@
 
 ghost use Rattle.std.specs.Prelude.{◌≡◌, IfOk};
 ghost use Rattle.adf_model.specs.Tests.{and_then};
-ghost use Rattle.sids_views.specs.Replies.{as_bytes, as_shape, as_children, as_node, as_format, as_target, as_presence};
-ghost use Rattle.sids_views.specs.Replies.{IsBytes, IsShape, AreChildren, IsNodeReply, IsFormat};
+ghost use Rattle.sids_views.specs.Replies.{as_bytes, as_shape, as_children, as_node, as_format, as_target, as_presence, IsBytes, IsShape, AreChildren, IsNodeReply, IsFormat};
 
 use adf_model::{AdfError, Children, Format, NodeId, Reply, Shape, Text};
 

@@ -1,7 +1,7 @@
 -- A file in the midst of an edit: it holds a tree, and some ranges are taken that no node uses.
 use Rattle.std.specs.Prelude.{◌≡◌, ℕ, ◌<◌, ◌≤◌, true, false, IsTrue, List, ◌++◌, length, map, slice_get, Some, is_some, ◌⊎◌}
 use Rattle.adf_format.specs.declared.types.Extent.{Extent}
-use Rattle.adf_format.specs.declared.fields.TheConstants.{HEADER_LENGTH}
+use Rattle.adf_format.specs.declared.fields.TheConstants.{HEADER_LENGTH, HEADER_END}
 use Rattle.adf_format.specs.Fields.{field}
 use Rattle.adf_format.specs.Tree.{Tree, Node, IsTree, node_at, is_among}
 use Rattle.adf_format.specs.Tiles.{Tiles, cover, is_filler}
@@ -10,7 +10,6 @@ use Rattle.adf_format.specs.Placement.{Placement, NodeParts, parts_of, node_exte
 use Rattle.adf_format.specs.LaysOut.{HoldsNode, AreGapsInOrder, ThreadsFreeChunks}
 use Rattle.adf_format.specs.Changes.{SameChildren}
 use Rattle.adf_format.specs.HeapBytes.{HoldsFillers}
-use Rattle.adf_format.specs.declared.fields.TheConstants.{HEADER_END}
 use Rattle.adf_format.specs.RecordFields.{field_in}
 use Rattle.adf_format.specs.Pointer.{PointsTo}
 

@@ -1,5 +1,5 @@
 -- The gifts of a deletion by serial, and the walk that finds them, in order.
-use Rattle.std.specs.Prelude.{◌≡◌, true, List, map, is_some, Ok}
+use Rattle.std.specs.Prelude.{◌≡◌, true, List, map, is_some, Ok, ℕ}
 use Rattle.std.specs.List.{flat_map}
 use Rattle.std.specs.List.Sorted.{IsPermutation, IsNonDecreasing}
 use Rattle.adf_format.specs.Tree.{Tree, IsTree, is_live, subtree, descend}
@@ -8,7 +8,6 @@ use Rattle.adf_model.specs.declared.tree.Edit.{Edit}
 use Rattle.adf_model.specs.declared.tree.NodeId.{NodeId}
 use Rattle.adf_model.specs.Edits.{apply}
 use Rattle.tree_laws.specs.Plans.{plan_deleted}
-use Rattle.std.specs.Prelude.{ℕ}
 
 -- what a deletion gives are the parts of the nodes of the subtree, by serial
 abbrev pub GivenBySerial : Type 0

@@ -2,9 +2,8 @@
 
 ghost use Rattle.tree_laws.specs.Entries.{NodesAreErased};
 ghost use Rattle.tree_laws.specs.SerialOrder.{GivenBySerial, SortedWalkIsSubtree};
-ghost use Rattle.tree_laws.specs.Deletions.{DeletedInItsTree, WalksListSubtrees};
+ghost use Rattle.tree_laws.specs.Deletions.{DeletedInItsTree, WalksListSubtrees, DeletedAbove};
 ghost use Rattle.tree_laws.specs.Gifts.{TakenInAnyOrder, GiftsEnd, DeletedAreTaken, DeletionEnds};
-ghost use Rattle.tree_laws.specs.Deletions.{DeletedAbove};
 
 /// A node and all below it are taken out where the entries behind its own move up and the count falls:
 /// the file holds the tree without them, and their parts are taken.

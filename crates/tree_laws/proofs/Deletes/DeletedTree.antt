@@ -14,8 +14,7 @@ use Rattle.adf_model.proofs.Trees.DifferLemmas.{others, among-others, others-amo
 use Rattle.adf_model.proofs.Trees.SubtreeLemmas.{parent_found, parent_none, parent_is, root_has_none, within_child, within_parent}
 use Rattle.adf_model.proofs.Trees.AncestorLemmas.{parent_tells, live_with_child, root_or_child, within_itself, root_outside, parent_outside}
 use Rattle.adf_model.proofs.Keeping.DeleteKeeps.{some_of, delete_keeps, erased_at, length-erased}
-use Rattle.tree_laws.specs.Deletions.{DeletedInItsTree}
-use Rattle.tree_laws.specs.Deletions.{DeletedAbove}
+use Rattle.tree_laws.specs.Deletions.{DeletedInItsTree, DeletedAbove}
 use Rattle.tree_laws.proofs.Edits.Plans.{parents_by_lineage}
 use Rattle.adf_model.proofs.Keeping.Created.{inside_of}
 

@@ -8,7 +8,7 @@ use Rattle.std.specs.Prelude.{Option, Some, None, slice_set, is_some, ◌==◌, 
 use Rattle.adf_format.specs.declared.types.Extent.{Extent}
 use Rattle.adf_format.specs.declared.types.ExtentKind.{ExtentKind}
 use Rattle.adf_format.specs.Hex.{hex_text, hex_value}
-use Rattle.adf_format.specs.Pointer.{To}
+use Rattle.adf_format.specs.Pointer.{To, pointer, pointer_text}
 use Rattle.adf_format.specs.Fields.{field, text_field}
 use Rattle.adf_format.specs.Tree.{Tree, Node, IsTree, node_at, is_among, children_of}
 use Rattle.adf_format.specs.Tiles.{cover}
@@ -16,12 +16,12 @@ use Rattle.adf_format.specs.Parts.{SpellsNode, SpellsTable, SpellsEntry, node_le
 use Rattle.adf_format.specs.Placement.{Placement, NodeParts, TablePart, parts_of, extent, extents_of, node_extents, live_extents, head_extents, all_extents, table_extents, chunk_table_extents, chunk_extents}
 use Rattle.adf_format.specs.LaysOut.{HoldsNode, HasTable, fields_of}
 use Rattle.adf_format.specs.Changes.{Writes, KeepsBut, AllApart, SameChildren}
-use Rattle.adf_format.specs.Records.{entry_text}
+use Rattle.adf_format.specs.Records.{entry_text, SubNodes}
 use Rattle.adf_format.proofs.HeapSteps.{cover-append}
 use Rattle.adf_format.proofs.HeapLaws.{in_range}
-use Rattle.adf_format.proofs.HexLaws.{hex_value-hex_text, length-hex_text}
+use Rattle.adf_format.proofs.HexLaws.{hex_value-hex_text, length-hex_text, pointer-pointer_text}
 use Rattle.adf_format.proofs.BehindEnd.{long_chunk_table, long_chunks}
-use Rattle.adf_format.proofs.FieldLaws.{field_around, length-field}
+use Rattle.adf_format.proofs.FieldLaws.{field_around, length-field, field_written, field_left, field_right, field_whole}
 use Rattle.adf_format.proofs.FrameLaws.{field_kept, chunk_table_kept, chunks_kept, data_kept}
 use Rattle.adf_model.specs.Edits.{with_new, given_children}
 use Rattle.adf_model.proofs.Writes.ManyWrites.{stand_reaches}
@@ -37,11 +37,7 @@ use Rattle.tree_laws.proofs.Edits.NewNode.{node_reach, node_stays}
 use Rattle.tree_laws.proofs.Edits.LabelSet.{written_in}
 use Rattle.adf_model.proofs.Creation.TableMoved.{used_long, used_says, text_long, text_spells, old_entry, new_entry}
 use Rattle.adf_model.specs.Creation.{used_entries, unused_entries}
-use Rattle.adf_format.specs.Pointer.{pointer, pointer_text}
-use Rattle.adf_format.specs.Records.{SubNodes}
 use Rattle.adf_format.specs.Spelled.{framed_text}
-use Rattle.adf_format.proofs.HexLaws.{pointer-pointer_text}
-use Rattle.adf_format.proofs.FieldLaws.{field_written, field_left, field_right, field_whole}
 use Rattle.adf_format.proofs.SpelledParts.{length-pointer_text}
 
 least : (wide : Bool) → 246 ≤ node_length wide

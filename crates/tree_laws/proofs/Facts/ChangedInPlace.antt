@@ -14,9 +14,6 @@ use Rattle.adf_model.proofs.Creation.CreatedNodes.{there_inside}
 use Rattle.adf_model.proofs.Keeping.EditsKeep.{apply_keeps}
 use Rattle.adf_model.proofs.Keeping.Keeps.{at-set}
 use Rattle.tree_laws.specs.TreeFacts.{changed_node, IsChanged, ChangedInItsTree}
-use Rattle.adf_model.proofs.CreatedNodes.{there_inside}
-use Rattle.adf_model.proofs.EditsKeep.{apply_keeps}
-use Rattle.adf_model.proofs.Keeps.{at-set}
 
 module _ (tree : Tree) (s : ℕ) (was : Node) (now : Node → Node) (at : node_at tree s ≡ Some was) (same : (now was).children ≡ was.children) where
   abbrev next : Tree

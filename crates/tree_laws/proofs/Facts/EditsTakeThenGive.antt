@@ -14,7 +14,7 @@ use Rattle.adf_format.proofs.BehindEnd.{AllLong, long_node}
 use Rattle.adf_format.proofs.LayoutLaws.{live_parts}
 use Rattle.adf_model.specs.declared.tree.Edit.TheVariants.{Create, Delete, Rename, Move, SetLabel, SetDims, PutAll, PutPart, Link}
 use Rattle.adf_model.proofs.Basics.{not_true, not_Err, same_Ok}
-use Rattle.adf_model.proofs.PartsApart.{cover_last}
+use Rattle.adf_model.proofs.Creation.PartsApart.{cover_last}
 use Rattle.tree_laws.specs.Placed.{TakesThenGives, EditTakesThenGives}
 use Rattle.tree_laws.proofs.Deletes.NodesLeft.{cover_erased}
 use Rattle.tree_laws.proofs.Groups.GroupLeft.{edit_keeps_format}

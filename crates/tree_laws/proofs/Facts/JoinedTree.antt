@@ -15,9 +15,6 @@ use Rattle.adf_model.proofs.Creation.CreateStays.{there}
 use Rattle.adf_model.proofs.Keeping.JoinedChild.{MayJoin, joined_sound, joined_kind, serial_drawn, child_there, parent_there, last_child, others_stay, above_stay, above_child, child_depth}
 use Rattle.adf_model.proofs.Keeping.LinkKeeps.{IsNode-new_link}
 use Rattle.tree_laws.specs.TreeFacts.{joined_node, changed_node, IsJoined, JoinedInItsTree, SerialsAreDrawn}
-use Rattle.adf_model.proofs.CreatedChild.{there, parent, may_join, is_new}
-use Rattle.adf_model.proofs.JoinedChild.{MayJoin, joined_sound, joined_kind, serial_drawn, child_there, parent_there, last_child, others_stay, above_stay, above_child, child_depth}
-use Rattle.adf_model.proofs.LinkKeeps.{IsNode-new_link}
 use Rattle.tree_laws.proofs.Edits.Plans.{parents_by_lineage}
 use Rattle.tree_laws.proofs.Deletes.DeletedTree.{deleted_in_its_tree}
 use Rattle.tree_laws.proofs.Moves.MovedTree.{moved_in_its_tree}

@@ -14,8 +14,8 @@ use Rattle.adf_format.proofs.HeapSteps.{cover-take, take_end, take_keeps_order, 
 use Rattle.adf_model.specs.declared.tree.Edit.{Edit}
 use Rattle.adf_model.specs.Edits.{Work, file_group}
 use Rattle.adf_model.specs.FileGroup.{done_by}
-use Rattle.adf_model.proofs.DataRoom.{cover-give_all, end-give_all}
-use Rattle.adf_model.proofs.PartsApart.{range_in, cover_all}
+use Rattle.adf_model.proofs.Writes.DataRoom.{cover-give_all, end-give_all}
+use Rattle.adf_model.proofs.Creation.PartsApart.{range_in, cover_all}
 use Rattle.tree_laws.specs.Placed.{TakesAll, TakesThenGives, StaysPlaced, EditStaysPlaced, GroupStaysPlaced}
 use Rattle.tree_laws.proofs.Groups.GroupsGrow.{step_reaches, group_is_done}
 use Rattle.tree_laws.proofs.Groups.GroupLeft.{group_keeps_format}

@@ -15,7 +15,7 @@ use Rattle.adf_format.proofs.BehindEnd.{AllLong, long_append, long_chunk_table}
 use Rattle.adf_format.proofs.HeapLaws.{in_range}
 use Rattle.adf_format.proofs.HeapSteps.{cover-append}
 use Rattle.adf_model.proofs.Basics.{not_true, not_Err, same_Ok}
-use Rattle.adf_model.proofs.PartsApart.{cover_set}
+use Rattle.adf_model.proofs.Creation.PartsApart.{cover_set}
 use Rattle.tree_laws.specs.Placed.{TakesAll, TakesThenGives}
 
 -- ---- ranges with bytes

@@ -1,8 +1,8 @@
 -- What a group of edits is with one more.
 use Rattle.std.proofs.Common.{◌≡◌, ℕ, zero, suc, refl, sym, ◌∙◌, ap, subst, arith, Bool, not, List, [], ◌∷◌, ◌++◌, length, map, ◌+◌}
-use Rattle.std.specs.Prelude.{Option, Some, Result, Ok, Err}
+use Rattle.std.specs.Prelude.{Option, Some, Result, Ok, Err, IsSome, ◌||◌, false, true}
 use Rattle.std.specs.Result.{result_unwrap_or}
-use Rattle.adf_format.specs.Tree.{Tree}
+use Rattle.adf_format.specs.Tree.{Tree, node_at, is_live}
 use Rattle.adf_format.specs.Placement.{Placement}
 use Rattle.adf_format.specs.HeapRule.{LimitReached, place_edit, ◌>>=◌}
 use Rattle.adf_model.specs.declared.error.AdfError.{AdfError}
@@ -11,18 +11,14 @@ use Rattle.adf_model.specs.declared.tree.Edit.{Edit}
 use Rattle.adf_model.specs.declared.tree.Edit.TheVariants.{Create, Delete, Rename, Move, SetLabel, SetDims, PutAll, PutPart, Link}
 use Rattle.adf_model.specs.declared.tree.NodeId.{NodeId}
 use Rattle.adf_model.specs.Tests.{and_then}
-use Rattle.adf_model.specs.Edits.{Work, IsReached, apply, at_edit, created_by, file_step, file_group_from, reach_tests}
+use Rattle.adf_model.specs.Edits.{Work, IsReached, apply, at_edit, created_by, file_step, file_group_from, reach_tests, named_nodes, followed}
 use Rattle.adf_model.specs.Need.{need, cost}
 use Rattle.adf_model.specs.Placing.{placed_as, place_group, chunk_number, group_cost}
 use Rattle.adf_model.specs.Untouched.{touched_extents, group_touched}
 use Rattle.adf_model.proofs.Following.StepTests.{step_tests}
-use Rattle.adf_model.proofs.Basics.{not_there, not_Err, same_Ok, same_Some, passed}
+use Rattle.adf_model.proofs.Basics.{not_there, not_Err, same_Ok, same_Some, passed, not_false, or_none}
 use Rattle.std.proofs.lemmas.List.{append_assoc, append-nil}
 use Rattle.std.specs.List.{list_any}
-use Rattle.std.specs.Prelude.{IsSome, ◌||◌, false, true}
-use Rattle.adf_format.specs.Tree.{node_at, is_live}
-use Rattle.adf_model.specs.Edits.{named_nodes, followed}
-use Rattle.adf_model.proofs.Basics.{not_false, or_none}
 use Rattle.tree_laws.specs.Plans.{end_of_plan, plan_edit}
 use Rattle.adf_model.specs.FileGroup.{done_then, done_by}
 use Rattle.tree_laws.specs.Groups.{tree_left, placement_left, group_need, AreDone, place_plans, GroupGrows, GroupIsDone, DoneGrow, FirstsGrow, TreeGrows, PlacementGrows, PlansGrow, PlacementIsLeft, TouchedGrow, ShapedGrow, CostGrows, NeedGrows, AreDoneGrow}

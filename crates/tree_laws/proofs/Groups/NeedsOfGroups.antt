@@ -1,5 +1,5 @@
 -- A group that is placed makes a file grow by the sum of its needs at most.
-use Rattle.std.proofs.Common.{◌≡◌, ℕ, refl, arith, [], ◌∷◌, length, ◌+◌}
+use Rattle.std.proofs.Common.{◌≡◌, ℕ, refl, arith, [], ◌∷◌, length, ◌+◌, subst}
 use Rattle.std.specs.Prelude.{Result, Ok, Err}
 use Rattle.adf_format.specs.Placement.{Placement}
 use Rattle.adf_format.specs.HeapRule.{LimitReached, place_edit, ◌>>=◌}
@@ -7,7 +7,6 @@ use Rattle.adf_model.specs.Need.{need}
 use Rattle.adf_model.specs.Placing.{placed_as, place_group}
 use Rattle.adf_model.proofs.Basics.{same_Ok}
 use Rattle.adf_model.proofs.Keeping.EditsKeep.{apply_keeps}
-use Rattle.std.proofs.Common.{subst}
 use Rattle.tree_laws.specs.Groups.{group_need}
 use Rattle.tree_laws.specs.Needs.{Grows, GroupNeedsBound, GroupStaysTree}
 use Rattle.tree_laws.proofs.Groups.GroupsGrow.{placed_first}

@@ -1,5 +1,5 @@
 -- The bytes behind the end of a file stay over the steps of an edit, and over edits one after another.
-use Rattle.std.proofs.Common.{◌≡◌, ℕ, zero, suc, refl, ◌∙◌, arith, List, ◌∷◌, ◌++◌, length, ◌+◌, ◌<◌, ◌≤◌, le_refl}
+use Rattle.std.proofs.Common.{◌≡◌, ℕ, zero, suc, refl, ◌∙◌, arith, List, ◌∷◌, ◌++◌, length, ◌+◌, ◌<◌, ◌≤◌, le_refl, ◌⊎◌, inl, inr}
 use Rattle.adf_format.specs.declared.types.Extent.{Extent}
 use Rattle.adf_format.specs.Changes.{heap_fields}
 use Rattle.adf_format.specs.Tree.{Tree}
@@ -8,7 +8,6 @@ use Rattle.adf_format.specs.Placement.{Placement, extent, live_extents, head_ext
 use Rattle.adf_format.proofs.HeapSteps.{cover-append}
 use Rattle.adf_model.specs.Placing.{placed_as}
 use Rattle.adf_model.proofs.Creation.PartsApart.{range_in, range_out}
-use Rattle.std.proofs.Common.{◌⊎◌, inl, inr}
 use Rattle.std.proofs.lemmas.Bool.Decides.{leb_tells}
 use Rattle.tree_laws.specs.Holding.{Holds, ChangesIn}
 use Rattle.tree_laws.specs.Groups.{tree_left}

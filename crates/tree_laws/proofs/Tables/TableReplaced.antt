@@ -2,27 +2,27 @@
 use Rattle.std.proofs.Common.{◌≡◌, ◌≢◌, ◌⊎◌, inl, inr, ℕ, zero, suc, refl, sym, ◌∙◌, ap, subst, arith, List, [], ◌∷◌, ◌++◌, length, length-append, get_or, map, ◌+◌, ◌-◌, ◌*◌, ◌^◌, ◌<◌, ◌≤◌, Bool, true, false}
 use Rattle.std.proofs.lemmas.Bool.Decides.{eqb_tells, nat_tests}
 use Rattle.std.proofs.lemmas.Option.{slice_get_within}
-use Rattle.std.proofs.Math.Seq.{map-set_same}
-use Rattle.std.specs.Prelude.{Option, Some, None, slice_set, is_some, ◌==◌, ◌||◌}
+use Rattle.std.proofs.Math.Seq.{map-set_same, get_or-set_same, get_or-set_other}
+use Rattle.std.specs.Prelude.{Option, Some, None, slice_set, is_some, ◌==◌, ◌||◌, codes, nat_le, ◌&&◌}
 use Rattle.adf_format.specs.declared.types.Extent.{Extent}
 use Rattle.adf_format.specs.declared.types.ExtentKind.{ExtentKind}
 use Rattle.adf_format.specs.Hex.{hex_text, hex_value}
-use Rattle.adf_format.specs.Pointer.{To}
+use Rattle.adf_format.specs.Pointer.{To, pointer, pointer_text}
 use Rattle.adf_format.specs.Fields.{field}
-use Rattle.adf_format.specs.Tree.{Tree, Node, IsTree, node_at, is_among, children_of}
+use Rattle.adf_format.specs.Tree.{Tree, Node, IsTree, node_at, is_among, children_of, children_at}
 use Rattle.adf_format.specs.Tiles.{cover}
-use Rattle.adf_format.specs.Parts.{SpellsNode, SpellsTable, SpellsEntry, node_length, table_length}
+use Rattle.adf_format.specs.Parts.{SpellsNode, SpellsTable, SpellsEntry, node_length, table_length, IsFramed}
 use Rattle.adf_format.specs.Placement.{Placement, NodeParts, TablePart, parts_of, extent, extents_of, node_extents, live_extents, head_extents, all_extents, table_extents, chunk_table_extents, chunk_extents}
-use Rattle.adf_format.specs.LaysOut.{HoldsNode, HasTable, fields_of}
+use Rattle.adf_format.specs.LaysOut.{HoldsNode, HasTable, fields_of, NamesChildren}
 use Rattle.adf_format.specs.Changes.{Writes, KeepsBut, AllApart, SameChildren}
 use Rattle.adf_format.proofs.HeapSteps.{cover-append}
 use Rattle.adf_format.proofs.HeapLaws.{in_range}
-use Rattle.adf_format.proofs.HexLaws.{hex_value-hex_text, length-hex_text}
+use Rattle.adf_format.proofs.HexLaws.{hex_value-hex_text, length-hex_text, pointer-pointer_text}
 use Rattle.adf_format.proofs.BehindEnd.{long_chunk_table, long_chunks}
-use Rattle.adf_format.proofs.FieldLaws.{field_around, length-field}
+use Rattle.adf_format.proofs.FieldLaws.{field_around, length-field, field_written, field_left, field_right, field_whole}
 use Rattle.adf_format.proofs.FrameLaws.{field_kept, chunk_table_kept, chunks_kept, data_kept}
 use Rattle.adf_model.proofs.Writes.ManyWrites.{stand_reaches}
-use Rattle.adf_model.proofs.Basics.{same_Some}
+use Rattle.adf_model.proofs.Basics.{same_Some, not_true}
 use Rattle.adf_model.proofs.Creation.CreatedNodes.{there_inside}
 use Rattle.adf_model.proofs.Creation.CreatedParts.{counted}
 use Rattle.adf_model.proofs.Creation.PartsApart.{range_in, range_out, range_within, all_apart, cover_all, cover_part, cover_two, cover_set}
@@ -31,21 +31,11 @@ use Rattle.tree_laws.proofs.Holding.Steps.{within, keeps_but, once, rebuilt}
 use Rattle.tree_laws.proofs.Edits.LabelSet.{written_in}
 use Rattle.adf_model.proofs.Creation.TableMoved.{used_long, used_says}
 use Rattle.adf_model.specs.Creation.{used_entries}
-use Rattle.adf_format.specs.Pointer.{pointer, pointer_text}
 use Rattle.adf_format.specs.Records.{SubNodes}
 use Rattle.adf_format.specs.Spelled.{framed_text}
-use Rattle.adf_format.proofs.HexLaws.{pointer-pointer_text}
-use Rattle.adf_format.proofs.FieldLaws.{field_written, field_left, field_right, field_whole}
-use Rattle.adf_format.proofs.SpelledParts.{length-pointer_text}
-use Rattle.std.proofs.Math.Seq.{get_or-set_same, get_or-set_other}
+use Rattle.adf_format.proofs.SpelledParts.{length-pointer_text, framed_long, framed_says, framed_body}
 use Rattle.std.specs.List.{list_all}
-use Rattle.std.specs.Prelude.{codes, nat_le, ◌&&◌}
 use Rattle.adf_format.specs.Names.{is_rank_of, is_dimension}
-use Rattle.adf_format.specs.Tree.{children_at}
-use Rattle.adf_format.specs.Parts.{IsFramed}
-use Rattle.adf_format.specs.LaysOut.{NamesChildren}
-use Rattle.adf_format.proofs.SpelledParts.{framed_long, framed_says, framed_body}
-use Rattle.adf_model.proofs.Basics.{not_true}
 use Rattle.tree_laws.specs.Tables.{TableIsReplaced}
 
 least : (wide : Bool) → 246 ≤ node_length wide

@@ -20,7 +20,7 @@ use Rattle.adf_model.specs.declared.tree.Edit.{Edit}
 use Rattle.adf_model.specs.declared.tree.NodeId.{NodeId}
 use Rattle.adf_model.specs.Edits.{with_node, has_named, other_children, file_step}
 use Rattle.adf_model.specs.Untouched.{touched_extents, header_extent, table_of, of_parent}
-use Rattle.adf_model.proofs.Basics.{not_true, same_Some, same_Ok, passed, found}
+use Rattle.adf_model.proofs.Basics.{not_true, same_Some, same_Ok, passed, found, not_false}
 use Rattle.adf_model.proofs.Keeping.EditsKeep.{apply_keeps}
 use Rattle.adf_model.proofs.Trees.AncestorLemmas.{within_itself, parent_outside}
 use Rattle.adf_model.proofs.Creation.CreatedNodes.{among_get, there_inside}
@@ -40,7 +40,6 @@ use Rattle.tree_laws.proofs.Tables.TableReplaced.{few_dims, node_too}
 use Rattle.tree_laws.proofs.Whole.Mid.{mid_begins, mid_switches}
 use Rattle.tree_laws.proofs.Whole.Spares.{one_spared, both_spared, header_spared, entries_spared, header_of, list_part}
 use Rattle.tree_laws.proofs.Whole.Ends.{mid_ends}
-use Rattle.adf_model.proofs.Basics.{not_false}
 
 -- where no part moves, all places are kept
 pub same_places : (touched : List Extent) (wide : Bool) (p : Placement) → KeepsPlaces touched wide p p

@@ -7,8 +7,7 @@ use Rattle.std.specs.List.{All}
 use Rattle.adf_format.specs.HeapRule.{payload_length}
 use Rattle.adf_data.specs.Chunks.{parts_of, Named, NoneNamed}
 use Rattle.adf_data.specs.Runs.{EndsIn, NoRuns, RunsRead}
-use Rattle.cg_io.proofs.ReadLaws.{refused_for}
-use Rattle.cg_io.proofs.ReadLaws.{refused_later}
+use Rattle.cg_io.proofs.ReadLaws.{refused_for, refused_later}
 use Rattle.adf_data.proofs.DataLaws.{unnamed_runs, unread_runs, elements_read}
 use Rattle.adf_data.proofs.runs.read_runs.Goals as goal
 

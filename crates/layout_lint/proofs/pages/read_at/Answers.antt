@@ -1,8 +1,7 @@
 use Rattle.std.proofs.Common.{◌≡◌, ◌⊎◌, ◌+◌, ◌/◌, ◌%◌, length, arith, refl, sym, subst}
 use Rattle.cg_io.specs.Device.{Gives}
-use Rattle.layout_lint.proofs.PageLaws.{read_step, read_whole}
+use Rattle.layout_lint.proofs.PageLaws.{read_step, read_whole, few_step, edge_step}
 use Rattle.cg_io.proofs.ReadLaws.{reads_then}
-use Rattle.layout_lint.proofs.PageLaws.{few_step, edge_step}
 use Rattle.layout_lint.proofs.pages.read_at.Goals as goal
 
 pub loop-done-preserved : goal.loop-done-preserved
