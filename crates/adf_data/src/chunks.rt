@@ -27,7 +27,8 @@ pub(crate) struct Chunk {
 fn chunk_between(start: DiskPtr, end_tag: DiskPtr) -> Option<Chunk>
     requires start { HasOffset start }
     requires end { HasOffset end_tag }
-    ensures says { (c : ChunkPart) → 21 ≤ c.length → view start ≡ To c.place → view end_tag ≡ To (c.place + c.length - 4) → option_map part_of result ≡ Some c }
+    ensures says { (c : ChunkPart) → 21 ≤ c.length → view start ≡ To c.place
+        → view end_tag ≡ To (c.place + c.length - 4) → option_map part_of result ≡ Some c }
     ensures sane { IfSome result IsSane }
 {
     let Some(place) = place_named(start) else {
@@ -47,7 +48,8 @@ fn chunk_between(start: DiskPtr, end_tag: DiskPtr) -> Option<Chunk>
 
 // The chunk that an entry of a table names.
 fn chunk_in_entry(bytes: &[u8; 24]) -> Option<Chunk>
-    ensures says { (c : ChunkPart) → 21 ≤ c.length → SaysChunk bytes.now c → option_map part_of result ≡ Some c }
+    ensures says { (c : ChunkPart) → 21 ≤ c.length → SaysChunk bytes.now c
+        → option_map part_of result ≡ Some c }
     ensures sane { IfSome result IsSane }
 {
     match decode_chunk_entry(bytes) {
@@ -59,7 +61,8 @@ fn chunk_in_entry(bytes: &[u8; 24]) -> Option<Chunk>
 // The chunk at a place, by its head.
 fn chunk_in_head(pointer: DiskPtr, bytes: &[u8; 16]) -> Option<Chunk>
     requires { HasOffset pointer }
-    ensures says { (c : ChunkPart) → 21 ≤ c.length → view pointer ≡ To c.place → HeadSaysChunk bytes.now c → option_map part_of result ≡ Some c }
+    ensures says { (c : ChunkPart) → 21 ≤ c.length → view pointer ≡ To c.place
+        → HeadSaysChunk bytes.now c → option_map part_of result ≡ Some c }
     ensures sane { IfSome result IsSane }
 {
     match decode_head(Part::Data, bytes) {
@@ -83,10 +86,12 @@ fn listed_chunk<S: Space>(space: &mut S, at: DataPlace, number: u64) -> Result<C
     ensures sound { S.is_sound space.new }
     ensures image { S.image space.new ≡ S.image space.old }
     ensures waits { S.waiting space.new ≡ S.waiting space.old }
-    ensures says { IfOk result (λ c. (parts : NodeParts) → Named at parts (S.image space.old) → part_of c ≡ part_at parts.chunks number) }
+    ensures says { IfOk result (λ c. (parts : NodeParts) → Named at parts (S.image space.old)
+        → part_of c ≡ part_at parts.chunks number) }
     ensures sane { IfOk result IsSane }
     ensures effect { OnlyReads (S.state space.old) (S.state space.new) }
-    ensures cause { IfErr result (IsRefusal (NoneNamed at (S.image space.old)) (S.state space.old).faults (S.state space.new).faults) }
+    ensures cause { IfErr result (IsRefusal (NoneNamed at (S.image space.old))
+        (S.state space.old).faults (S.state space.new).faults) }
 {
     let Some(table) = place_named(at.pointer) else {
         return Err(AdfError::Layout { rule: 30, place: 0 });
@@ -117,10 +122,12 @@ pub(crate) fn only_chunk<S: Space>(space: &mut S, at: DataPlace) -> Result<Chunk
     ensures sound { S.is_sound space.new }
     ensures image { S.image space.new ≡ S.image space.old }
     ensures waits { S.waiting space.new ≡ S.waiting space.old }
-    ensures says { IfOk result (λ c. (parts : NodeParts) → Named at parts (S.image space.old) → part_of c ∷ [] ≡ parts.chunks) }
+    ensures says { IfOk result (λ c. (parts : NodeParts) → Named at parts (S.image space.old)
+        → part_of c ∷ [] ≡ parts.chunks) }
     ensures sane { IfOk result IsSane }
     ensures effect { OnlyReads (S.state space.old) (S.state space.new) }
-    ensures cause { IfErr result (IsRefusal (NoneNamed at (S.image space.old)) (S.state space.old).faults (S.state space.new).faults) }
+    ensures cause { IfErr result (IsRefusal (NoneNamed at (S.image space.old))
+        (S.state space.old).faults (S.state space.new).faults) }
 {
     let Some(place) = place_named(at.pointer) else {
         return Err(AdfError::Layout { rule: 30, place: 0 });
@@ -164,12 +171,14 @@ fn list_several<S: Space>(
     ensures sound { S.is_sound space.new }
     ensures image { S.image space.new ≡ S.image space.old }
     ensures waits { S.waiting space.new ≡ S.waiting space.old }
-    ensures says { IfOk result (λ chunks. (parts : NodeParts) → Named at parts (S.image space.old) → parts_of chunks.items ≡ parts.chunks) }
+    ensures says { IfOk result (λ chunks. (parts : NodeParts) → Named at parts (S.image space.old)
+        → parts_of chunks.items ≡ parts.chunks) }
     ensures sane { IfOk result (λ chunks. All IsSane chunks.items) }
     ensures few { IfOk result (λ chunks. length chunks.items < 65536) }
     ensures count { IfOk result (λ chunks. length chunks.items ≡ at.count) }
     ensures effect { OnlyReads (S.state space.old) (S.state space.new) }
-    ensures cause { IfErr result (IsRefusal (NoneNamed at (S.image space.old)) (S.state space.old).faults (S.state space.new).faults) }
+    ensures cause { IfErr result (IsRefusal (NoneNamed at (S.image space.old))
+        (S.state space.old).faults (S.state space.new).faults) }
 {
     let mut chunks = match Vec::with_capacity(alloc, usize::from(count)) {
         Ok(chunks) => chunks,
@@ -195,12 +204,14 @@ pub(crate) fn list_chunks<S: Space>(
     ensures sound { S.is_sound space.new }
     ensures image { S.image space.new ≡ S.image space.old }
     ensures waits { S.waiting space.new ≡ S.waiting space.old }
-    ensures says { IfOk result (λ chunks. (parts : NodeParts) → Named at parts (S.image space.old) → parts_of chunks.items ≡ parts.chunks) }
+    ensures says { IfOk result (λ chunks. (parts : NodeParts) → Named at parts (S.image space.old)
+        → parts_of chunks.items ≡ parts.chunks) }
     ensures sane { IfOk result (λ chunks. All IsSane chunks.items) }
     ensures few { IfOk result (λ chunks. length chunks.items < 65536) }
     ensures count { IfOk result (λ chunks. length chunks.items ≡ at.count) }
     ensures effect { OnlyReads (S.state space.old) (S.state space.new) }
-    ensures cause { IfErr result (IsRefusal (NoneNamed at (S.image space.old)) (S.state space.old).faults (S.state space.new).faults) }
+    ensures cause { IfErr result (IsRefusal (NoneNamed at (S.image space.old))
+        (S.state space.old).faults (S.state space.new).faults) }
 {
     if at.count != 1 {
         return list_several(alloc, space, at, at.count);
@@ -217,7 +228,8 @@ pub(crate) fn list_chunks<S: Space>(
 #[tactic(auto, using(crate::proofs::Listing::table_named, crate::proofs::Listing::untabled))]
 pub(crate) fn table_in(at: DataPlace) -> Option<u64>
     requires offset { HasOffset at.pointer }
-    ensures says { (parts : NodeParts) (image : Option (List ℕ)) → Named at parts image → result ≡ parts.chunk_table }
+    ensures says { (parts : NodeParts) (image : Option (List ℕ)) → Named at parts image
+        → result ≡ parts.chunk_table }
     ensures near { IfSome result (λ place. place < 2 ^ 44) }
 {
     if at.count < 2 {

@@ -48,7 +48,8 @@ fn fill_part<S: Space>(
     ensures filled { OnOk result (Both (Fills place part) (S.image space.old) (S.image space.new)) }
     ensures bytes { Both (ChangesAt place part) (S.image space.old) (S.image space.new) }
     ensures effect { OnlyReads (S.state space.old) (S.state space.new) }
-    ensures cause { IfErr result (IsRefusal ⊥ (S.state space.old).faults (S.state space.new).faults) }
+    ensures cause { IfErr result (IsRefusal ⊥ (S.state space.old).faults
+        (S.state space.new).faults) }
 {
     match store(space, place, &block[..part]) {
         Ok(()) => Ok(()),
@@ -61,10 +62,12 @@ pub(crate) fn fill<S: Space>(space: &mut S, place: u64, count: u64) -> Result<()
     requires sound { S.is_sound space.old }
     requires within { place + count ≤ 2 ^ 44 }
     ensures sound { S.is_sound space.new }
-    ensures filled { OnOk result (Both (Fills place count) (S.image space.old) (S.image space.new)) }
+    ensures filled { OnOk result (Both (Fills place count) (S.image space.old)
+        (S.image space.new)) }
     ensures bytes { Both (ChangesAt place count) (S.image space.old) (S.image space.new) }
     ensures effect { OnlyReads (S.state space.old) (S.state space.new) }
-    ensures cause { IfErr result (IsRefusal ⊥ (S.state space.old).faults (S.state space.new).faults) }
+    ensures cause { IfErr result (IsRefusal ⊥ (S.state space.old).faults
+        (S.state space.new).faults) }
 {
     let block = zero_block();
     let mut done = 0;
@@ -97,10 +100,12 @@ fn copy_part<S: Space>(
     requires room { to + part ≤ 2 ^ 44 }
     ensures sound { S.is_sound space.new }
     ensures spot { IsSpot (parts_of chunks.now) spot.new }
-    ensures copied { OnOk result (Both (CopiesPart (parts_of chunks.now) first part to) (S.image space.old) (S.image space.new)) }
+    ensures copied { OnOk result (Both (CopiesPart (parts_of chunks.now) first part to)
+        (S.image space.old) (S.image space.new)) }
     ensures bytes { Both (ChangesAt to part) (S.image space.old) (S.image space.new) }
     ensures effect { OnlyReads (S.state space.old) (S.state space.new) }
-    ensures cause { IfErr result (IsRefusal ⊥ (S.state space.old).faults (S.state space.new).faults) }
+    ensures cause { IfErr result (IsRefusal ⊥ (S.state space.old).faults
+        (S.state space.new).faults) }
 {
     let mut block = [0u8; 4096];
     match read_range(space, chunks, spot, first, &mut block[..part]) {
@@ -125,10 +130,12 @@ pub(crate) fn copy_out<S: Space>(
     requires within { count ≤ payload_length (parts_of chunks.now) }
     requires room { to + count ≤ 2 ^ 44 }
     ensures sound { S.is_sound space.new }
-    ensures copied { OnOk result (Both (Copies (parts_of chunks.now) count count to) (S.image space.old) (S.image space.new)) }
+    ensures copied { OnOk result (Both (Copies (parts_of chunks.now) count count to)
+        (S.image space.old) (S.image space.new)) }
     ensures bytes { Both (ChangesAt to count) (S.image space.old) (S.image space.new) }
     ensures effect { OnlyReads (S.state space.old) (S.state space.new) }
-    ensures cause { IfErr result (IsRefusal ⊥ (S.state space.old).faults (S.state space.new).faults) }
+    ensures cause { IfErr result (IsRefusal ⊥ (S.state space.old).faults
+        (S.state space.new).faults) }
 {
     let mut spot = START;
     let mut done = 0;
@@ -155,10 +162,13 @@ pub(crate) fn zero_range<S: Space>(
     requires within { first + count ≤ payload_length (parts_of chunks.now) }
     requires small { first + count < 2 ^ 63 }
     ensures sound { S.is_sound space.new }
-    ensures zeroed { OnOk result (Both (ZeroesBytes (parts_of chunks.now) first count) (S.image space.old) (S.image space.new)) }
-    ensures bytes { Both (ChangesBytes (parts_of chunks.now) first count) (S.image space.old) (S.image space.new) }
+    ensures zeroed { OnOk result (Both (ZeroesBytes (parts_of chunks.now) first count)
+        (S.image space.old) (S.image space.new)) }
+    ensures bytes { Both (ChangesBytes (parts_of chunks.now) first count) (S.image space.old)
+        (S.image space.new) }
     ensures effect { OnlyReads (S.state space.old) (S.state space.new) }
-    ensures cause { IfErr result (IsRefusal ⊥ (S.state space.old).faults (S.state space.new).faults) }
+    ensures cause { IfErr result (IsRefusal ⊥ (S.state space.old).faults
+        (S.state space.new).faults) }
 {
     let block = zero_block();
     zero_by_blocks(space, chunks, &block, first, count)
@@ -177,10 +187,13 @@ fn zero_by_blocks<S: Space>(
     requires within { first + count ≤ payload_length (parts_of chunks.now) }
     requires small { first + count < 2 ^ 63 }
     ensures sound { S.is_sound space.new }
-    ensures zeroed { OnOk result (Both (ZeroesBytes (parts_of chunks.now) first count) (S.image space.old) (S.image space.new)) }
-    ensures bytes { Both (ChangesBytes (parts_of chunks.now) first count) (S.image space.old) (S.image space.new) }
+    ensures zeroed { OnOk result (Both (ZeroesBytes (parts_of chunks.now) first count)
+        (S.image space.old) (S.image space.new)) }
+    ensures bytes { Both (ChangesBytes (parts_of chunks.now) first count) (S.image space.old)
+        (S.image space.new) }
     ensures effect { OnlyReads (S.state space.old) (S.state space.new) }
-    ensures cause { IfErr result (IsRefusal ⊥ (S.state space.old).faults (S.state space.new).faults) }
+    ensures cause { IfErr result (IsRefusal ⊥ (S.state space.old).faults
+        (S.state space.new).faults) }
 {
     let mut spot = START;
     let mut done = 0;
@@ -210,10 +223,12 @@ pub(crate) fn write_chunk<S: Space>(
     requires fits { 20 + kept ≤ length }
     requires near { place + length ≤ 2 ^ 44 }
     ensures sound { S.is_sound space.new }
-    ensures made { OnOk result (Both (MakesChunk (parts_of chunks.now) kept length place) (S.image space.old) (S.image space.new)) }
+    ensures made { OnOk result (Both (MakesChunk (parts_of chunks.now) kept length place)
+        (S.image space.old) (S.image space.new)) }
     ensures bytes { Both (ChangesAt place length) (S.image space.old) (S.image space.new) }
     ensures effect { OnlyReads (S.state space.old) (S.state space.new) }
-    ensures cause { IfErr result (IsRefusal ⊥ (S.state space.old).faults (S.state space.new).faults) }
+    ensures cause { IfErr result (IsRefusal ⊥ (S.state space.old).faults
+        (S.state space.new).faults) }
 {
     let end = place + length - 4;
     match store(space, place, &encode_head(Part::Data, from_place(end))) {

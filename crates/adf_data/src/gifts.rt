@@ -24,21 +24,29 @@ fn give_chunks<S: Space>(heap: &mut Heap, space: &mut S, chunks: &[Chunk]) -> Re
     requires sound { S.is_sound space.old }
     requires sane { All IsSane chunks.now }
     requires heap { IsHeap heap.old.now }
-    requires threads { IfSome (S.image space.old) (λ bytes. ThreadsFreeChunks bytes heap.old.now.gaps) }
+    requires threads { IfSome (S.image space.old)
+        (λ bytes. ThreadsFreeChunks bytes heap.old.now.gaps) }
     ensures sound { S.is_sound space.new }
-    ensures gives { OnOk result (heap.new.now ≡ give_all (chunk_extents (parts_of chunks.now)) heap.old.now) }
+    ensures gives { OnOk result (heap.new.now ≡ give_all
+        (chunk_extents (parts_of chunks.now)) heap.old.now) }
     ensures kept { heap.new.kept ≡ heap.old.kept }
     ensures limit { heap.new.limit ≡ heap.old.limit }
     ensures last { heap.new.now.end ≡ heap.old.now.end }
     ensures heap { IsHeap heap.new.now }
     ensures pairs { pairs heap.new.now.gaps ≤ pairs heap.old.now.gaps }
-    ensures threads { OnOk result (IfSome (S.image space.new) (λ bytes. ThreadsFreeChunks bytes heap.new.now.gaps)) }
-    ensures bytes { Both (ChangesOnly (heap_fields ++ chunk_extents (parts_of chunks.now) ++ heap.old.now.gaps)) (S.image space.old) (S.image space.new) }
-    ensures end { OnOk result (Both (MovesEnd heap.old.now.end heap.new.now.end) (S.image space.old) (S.image space.new)) }
-    ensures fillers { OnOk result (Both (KeepsFillers heap.old.now.gaps heap.new.now.gaps) (S.image space.old) (S.image space.new)) }
+    ensures threads { OnOk result (IfSome (S.image space.new)
+        (λ bytes. ThreadsFreeChunks bytes heap.new.now.gaps)) }
+    ensures bytes { Both (ChangesOnly (heap_fields ++ chunk_extents (parts_of chunks.now)
+        ++ heap.old.now.gaps)) (S.image space.old) (S.image space.new) }
+    ensures end { OnOk result (Both (MovesEnd heap.old.now.end heap.new.now.end) (S.image space.old)
+        (S.image space.new)) }
+    ensures fillers { OnOk result (Both (KeepsFillers heap.old.now.gaps heap.new.now.gaps)
+        (S.image space.old) (S.image space.new)) }
     ensures effect { OnlyReads (S.state space.old) (S.state space.new) }
     ensures waits { S.waiting space.new ≤ S.waiting space.old + 12 * length chunks.now }
-    ensures cause { IfErr result (IsRefusal (Ungivable (S.image space.old) (chunk_extents (parts_of chunks.now)) heap.old.now) (S.state space.old).faults (S.state space.new).faults) }
+    ensures cause { IfErr result (IsRefusal (Ungivable (S.image space.old)
+        (chunk_extents (parts_of chunks.now)) heap.old.now) (S.state space.old).faults
+        (S.state space.new).faults) }
 {
     for i in 0..chunks.len() {
         let chunk = chunk_of(chunks, i);
@@ -61,21 +69,29 @@ pub(crate) fn give_table<S: Space>(
     requires near { IfSome table (λ place. place < 2 ^ 44) }
     requires few { count < 65536 }
     requires heap { IsHeap heap.old.now }
-    requires threads { IfSome (S.image space.old) (λ bytes. ThreadsFreeChunks bytes heap.old.now.gaps) }
+    requires threads { IfSome (S.image space.old)
+        (λ bytes. ThreadsFreeChunks bytes heap.old.now.gaps) }
     ensures sound { S.is_sound space.new }
-    ensures gives { OnOk result (heap.new.now ≡ give_all (chunk_table_extents table count) heap.old.now) }
+    ensures gives { OnOk result (heap.new.now ≡ give_all
+        (chunk_table_extents table count) heap.old.now) }
     ensures kept { heap.new.kept ≡ heap.old.kept }
     ensures limit { heap.new.limit ≡ heap.old.limit }
     ensures last { heap.new.now.end ≡ heap.old.now.end }
     ensures heap { IsHeap heap.new.now }
     ensures pairs { pairs heap.new.now.gaps ≤ pairs heap.old.now.gaps }
-    ensures threads { OnOk result (IfSome (S.image space.new) (λ bytes. ThreadsFreeChunks bytes heap.new.now.gaps)) }
-    ensures bytes { Both (ChangesOnly (heap_fields ++ chunk_table_extents table count ++ heap.old.now.gaps)) (S.image space.old) (S.image space.new) }
-    ensures end { OnOk result (Both (MovesEnd heap.old.now.end heap.new.now.end) (S.image space.old) (S.image space.new)) }
-    ensures fillers { OnOk result (Both (KeepsFillers heap.old.now.gaps heap.new.now.gaps) (S.image space.old) (S.image space.new)) }
+    ensures threads { OnOk result (IfSome (S.image space.new)
+        (λ bytes. ThreadsFreeChunks bytes heap.new.now.gaps)) }
+    ensures bytes { Both (ChangesOnly (heap_fields ++ chunk_table_extents table count
+        ++ heap.old.now.gaps)) (S.image space.old) (S.image space.new) }
+    ensures end { OnOk result (Both (MovesEnd heap.old.now.end heap.new.now.end) (S.image space.old)
+        (S.image space.new)) }
+    ensures fillers { OnOk result (Both (KeepsFillers heap.old.now.gaps heap.new.now.gaps)
+        (S.image space.old) (S.image space.new)) }
     ensures effect { OnlyReads (S.state space.old) (S.state space.new) }
     ensures waits { S.waiting space.new ≤ S.waiting space.old + 12 }
-    ensures cause { IfErr result (IsRefusal (Ungivable (S.image space.old) (chunk_table_extents table count) heap.old.now) (S.state space.old).faults (S.state space.new).faults) }
+    ensures cause { IfErr result (IsRefusal (Ungivable (S.image space.old)
+        (chunk_table_extents table count) heap.old.now) (S.state space.old).faults
+        (S.state space.new).faults) }
 {
     match table {
         None => Ok(()),
@@ -95,21 +111,29 @@ pub(crate) fn give_data<S: Space>(
     requires few { length chunks.now < 65536 }
     requires sane { All IsSane chunks.now }
     requires heap { IsHeap heap.old.now }
-    requires threads { IfSome (S.image space.old) (λ bytes. ThreadsFreeChunks bytes heap.old.now.gaps) }
+    requires threads { IfSome (S.image space.old)
+        (λ bytes. ThreadsFreeChunks bytes heap.old.now.gaps) }
     ensures sound { S.is_sound space.new }
-    ensures gives { OnOk result (heap.new.now ≡ give_all (extents_in table (parts_of chunks.now)) heap.old.now) }
+    ensures gives { OnOk result (heap.new.now ≡ give_all
+        (extents_in table (parts_of chunks.now)) heap.old.now) }
     ensures kept { heap.new.kept ≡ heap.old.kept }
     ensures limit { heap.new.limit ≡ heap.old.limit }
     ensures last { heap.new.now.end ≡ heap.old.now.end }
     ensures heap { IsHeap heap.new.now }
     ensures pairs { pairs heap.new.now.gaps ≤ pairs heap.old.now.gaps }
-    ensures threads { OnOk result (IfSome (S.image space.new) (λ bytes. ThreadsFreeChunks bytes heap.new.now.gaps)) }
-    ensures bytes { Both (ChangesOnly (heap_fields ++ extents_in table (parts_of chunks.now) ++ heap.old.now.gaps)) (S.image space.old) (S.image space.new) }
-    ensures end { OnOk result (Both (MovesEnd heap.old.now.end heap.new.now.end) (S.image space.old) (S.image space.new)) }
-    ensures fillers { OnOk result (Both (KeepsFillers heap.old.now.gaps heap.new.now.gaps) (S.image space.old) (S.image space.new)) }
+    ensures threads { OnOk result (IfSome (S.image space.new)
+        (λ bytes. ThreadsFreeChunks bytes heap.new.now.gaps)) }
+    ensures bytes { Both (ChangesOnly (heap_fields ++ extents_in table (parts_of chunks.now)
+        ++ heap.old.now.gaps)) (S.image space.old) (S.image space.new) }
+    ensures end { OnOk result (Both (MovesEnd heap.old.now.end heap.new.now.end) (S.image space.old)
+        (S.image space.new)) }
+    ensures fillers { OnOk result (Both (KeepsFillers heap.old.now.gaps heap.new.now.gaps)
+        (S.image space.old) (S.image space.new)) }
     ensures effect { OnlyReads (S.state space.old) (S.state space.new) }
     ensures waits { S.waiting space.new ≤ S.waiting space.old + 12 * (length chunks.now + 1) }
-    ensures cause { IfErr result (IsRefusal (Ungivable (S.image space.old) (extents_in table (parts_of chunks.now)) heap.old.now) (S.state space.old).faults (S.state space.new).faults) }
+    ensures cause { IfErr result (IsRefusal (Ungivable (S.image space.old)
+        (extents_in table (parts_of chunks.now)) heap.old.now) (S.state space.old).faults
+        (S.state space.new).faults) }
 {
     match give_table(heap, space, table, chunks.len() as u64) {
         Ok(()) => {}

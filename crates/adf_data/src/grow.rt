@@ -52,10 +52,13 @@ pub(crate) fn put_chunk<S: Space>(
     requires fits { 20 + kept ≤ n }
     requires small { n ≤ 2 ^ 44 }
     requires heap { IsHeap heap.old.now }
-    requires threads { IfSome (S.image space.old) (λ bytes. ThreadsFreeChunks bytes heap.old.now.gaps) }
+    requires threads { IfSome (S.image space.old)
+        (λ bytes. ThreadsFreeChunks bytes heap.old.now.gaps) }
     ensures sound { S.is_sound space.new }
-    ensures takes { IfOk result (λ place. heap_take heap.old.limit n heap.old.now ≡ Ok (place, heap.new.now)) }
-    ensures full { (asked end : ℕ) → result ≡ Err (AdfError.Full asked end) → heap_take heap.old.limit n heap.old.now ≡ Err (record { asked = asked; end = end }) }
+    ensures takes { IfOk result (λ place. heap_take heap.old.limit n heap.old.now
+        ≡ Ok (place, heap.new.now)) }
+    ensures full { (asked end : ℕ) → result ≡ Err (AdfError.Full asked end)
+        → heap_take heap.old.limit n heap.old.now ≡ Err (record { asked = asked; end = end }) }
     ensures kept { heap.new.kept ≡ heap.old.kept }
     ensures limit { heap.new.limit ≡ heap.old.limit }
     ensures grows { heap.old.now.end ≤ heap.new.now.end }
@@ -63,13 +66,20 @@ pub(crate) fn put_chunk<S: Space>(
     ensures within { IfOk result (IsTakenWithin n heap.new.now) }
     ensures covers { IfOk result (TakesCover n heap.old.now heap.new.now) }
     ensures pairs { pairs heap.new.now.gaps ≤ pairs heap.old.now.gaps }
-    ensures puts { IfOk result (λ place. Both (PutsChunk (parts_of chunks.now) kept n place heap.old.now heap.new.now) (S.image space.old) (S.image space.new)) }
-    ensures threads { OnOk result (IfSome (S.image space.new) (λ bytes. ThreadsFreeChunks bytes heap.new.now.gaps)) }
-    ensures bytes { Both (ChangesOnly (room_of heap.old.now heap.new.now)) (S.image space.old) (S.image space.new) }
-    ensures end { OnOk result (Both (MovesEnd heap.old.now.end heap.new.now.end) (S.image space.old) (S.image space.new)) }
-    ensures fillers { OnOk result (Both (KeepsFillers heap.old.now.gaps heap.new.now.gaps) (S.image space.old) (S.image space.new)) }
+    ensures puts { IfOk result (λ place.
+        Both (PutsChunk (parts_of chunks.now) kept n place heap.old.now heap.new.now)
+        (S.image space.old) (S.image space.new)) }
+    ensures threads { OnOk result (IfSome (S.image space.new)
+        (λ bytes. ThreadsFreeChunks bytes heap.new.now.gaps)) }
+    ensures bytes { Both (ChangesOnly (room_of heap.old.now heap.new.now)) (S.image space.old)
+        (S.image space.new) }
+    ensures end { OnOk result (Both (MovesEnd heap.old.now.end heap.new.now.end) (S.image space.old)
+        (S.image space.new)) }
+    ensures fillers { OnOk result (Both (KeepsFillers heap.old.now.gaps heap.new.now.gaps)
+        (S.image space.old) (S.image space.new)) }
     ensures effect { OnlyReads (S.state space.old) (S.state space.new) }
-    ensures cause { IfErr result (IsGrowRefusal (IsUntold (S.image space.old)) (S.state space.old).faults (S.state space.new).faults) }
+    ensures cause { IfErr result (IsGrowRefusal (IsUntold (S.image space.old))
+        (S.state space.old).faults (S.state space.new).faults) }
 {
     let place = match take_range(heap, space, n) {
         Ok(place) => place,
@@ -95,24 +105,35 @@ pub(crate) fn put_table<S: Space>(
     requires some { 1 ≤ length chunks.now }
     requires few { length chunks.now < 65535 }
     requires heap { IsHeap heap.old.now }
-    requires threads { IfSome (S.image space.old) (λ bytes. ThreadsFreeChunks bytes heap.old.now.gaps) }
+    requires threads { IfSome (S.image space.old)
+        (λ bytes. ThreadsFreeChunks bytes heap.old.now.gaps) }
     ensures sound { S.is_sound space.new }
-    ensures takes { IfOk result (λ place. heap_take heap.old.limit (44 + 24 * length chunks.now) heap.old.now ≡ Ok (place, heap.new.now)) }
-    ensures full { (asked end : ℕ) → result ≡ Err (AdfError.Full asked end) → heap_take heap.old.limit (44 + 24 * length chunks.now) heap.old.now ≡ Err (record { asked = asked; end = end }) }
+    ensures takes { IfOk result (λ place. heap_take heap.old.limit
+        (44 + 24 * length chunks.now) heap.old.now ≡ Ok (place, heap.new.now)) }
+    ensures full { (asked end : ℕ) → result ≡ Err (AdfError.Full asked end)
+        → heap_take heap.old.limit (44 + 24 * length chunks.now) heap.old.now
+        ≡ Err (record { asked = asked; end = end }) }
     ensures kept { heap.new.kept ≡ heap.old.kept }
     ensures limit { heap.new.limit ≡ heap.old.limit }
     ensures grows { heap.old.now.end ≤ heap.new.now.end }
     ensures heap { IsHeap heap.new.now }
     ensures within { IfOk result (IsTakenWithin (44 + 24 * length chunks.now) heap.new.now) }
-    ensures covers { IfOk result (TakesCover (44 + 24 * length chunks.now) heap.old.now heap.new.now) }
+    ensures covers { IfOk result (TakesCover (44
+        + 24 * length chunks.now) heap.old.now heap.new.now) }
     ensures pairs { pairs heap.new.now.gaps ≤ pairs heap.old.now.gaps }
-    ensures puts { IfOk result (λ place. IfSome (S.image space.new) (PutsTable (parts_of chunks.now ++ part_of last ∷ []) place)) }
-    ensures threads { OnOk result (IfSome (S.image space.new) (λ bytes. ThreadsFreeChunks bytes heap.new.now.gaps)) }
-    ensures bytes { Both (ChangesOnly (room_of heap.old.now heap.new.now)) (S.image space.old) (S.image space.new) }
-    ensures end { OnOk result (Both (MovesEnd heap.old.now.end heap.new.now.end) (S.image space.old) (S.image space.new)) }
-    ensures fillers { OnOk result (Both (KeepsFillers heap.old.now.gaps heap.new.now.gaps) (S.image space.old) (S.image space.new)) }
+    ensures puts { IfOk result (λ place. IfSome (S.image space.new)
+        (PutsTable (parts_of chunks.now ++ part_of last ∷ []) place)) }
+    ensures threads { OnOk result (IfSome (S.image space.new)
+        (λ bytes. ThreadsFreeChunks bytes heap.new.now.gaps)) }
+    ensures bytes { Both (ChangesOnly (room_of heap.old.now heap.new.now)) (S.image space.old)
+        (S.image space.new) }
+    ensures end { OnOk result (Both (MovesEnd heap.old.now.end heap.new.now.end) (S.image space.old)
+        (S.image space.new)) }
+    ensures fillers { OnOk result (Both (KeepsFillers heap.old.now.gaps heap.new.now.gaps)
+        (S.image space.old) (S.image space.new)) }
     ensures effect { OnlyReads (S.state space.old) (S.state space.new) }
-    ensures cause { IfErr result (IsGrowRefusal (IsUntold (S.image space.old)) (S.state space.old).faults (S.state space.new).faults) }
+    ensures cause { IfErr result (IsGrowRefusal (IsUntold (S.image space.old))
+        (S.state space.old).faults (S.state space.new).faults) }
 {
     let place = match take_range(heap, space, 44 + 24 * chunks.len() as u64) {
         Ok(place) => place,
@@ -144,18 +165,27 @@ fn gather<S: Space>(
     requires was { old ≤ payload_length (parts_of chunks.now) }
     requires size { (old ≤ new) × (1 ≤ new) × (new ≤ 2 ^ 30) }
     requires heap { IsHeap heap.old.now }
-    requires threads { IfSome (S.image space.old) (λ bytes. ThreadsFreeChunks bytes heap.old.now.gaps) }
+    requires threads { IfSome (S.image space.old)
+        (λ bytes. ThreadsFreeChunks bytes heap.old.now.gaps) }
     ensures sound { S.is_sound space.new }
-    ensures gathers { IfOk result (λ now. Both (GathersData heap.old.limit table (parts_of chunks.now) old new now heap.old.now heap.new.now) (S.image space.old) (S.image space.new)) }
+    ensures gathers { IfOk result (λ now. Both
+        (GathersData heap.old.limit table (parts_of chunks.now) old new now heap.old.now
+        heap.new.now) (S.image space.old) (S.image space.new)) }
     ensures offset { IfOk result (λ now. HasOffset now.pointer) }
-    ensures full { (asked end : ℕ) → result ≡ Err (AdfError.Full asked end) → heap_take heap.old.limit (chunk_length_for new) heap.old.now ≡ Err (record { asked = asked; end = end }) }
+    ensures full { (asked end : ℕ) → result ≡ Err (AdfError.Full asked end)
+        → heap_take heap.old.limit (chunk_length_for new) heap.old.now
+        ≡ Err (record { asked = asked; end = end }) }
     ensures kept { heap.new.kept ≡ heap.old.kept }
     ensures limit { heap.new.limit ≡ heap.old.limit }
     ensures heap { IsHeap heap.new.now }
     ensures pairs { pairs heap.new.now.gaps ≤ pairs heap.old.now.gaps }
-    ensures bytes { Both (ChangesOnly (changed_ranges (extents_in table (parts_of chunks.now)) heap.old.now heap.new.now)) (S.image space.old) (S.image space.new) }
+    ensures bytes { Both (ChangesOnly (changed_ranges
+        (extents_in table (parts_of chunks.now)) heap.old.now heap.new.now)) (S.image space.old)
+        (S.image space.new) }
     ensures effect { OnlyReads (S.state space.old) (S.state space.new) }
-    ensures cause { IfErr result (IsGrowRefusal (Ungivable (S.image space.old) (extents_in table (parts_of chunks.now)) heap.old.now) (S.state space.old).faults (S.state space.new).faults) }
+    ensures cause { IfErr result (IsGrowRefusal
+        (Ungivable (S.image space.old) (extents_in table (parts_of chunks.now)) heap.old.now)
+        (S.state space.old).faults (S.state space.new).faults) }
 {
     let place = match put_chunk(heap, space, chunks, old, chunk_length(new)) {
         Ok(place) => place,
@@ -192,18 +222,28 @@ fn extend<S: Space>(
     requires was { old ≤ have }
     requires added { (1 ≤ added) × (have + added ≤ 2 ^ 30) }
     requires heap { IsHeap heap.old.now }
-    requires threads { IfSome (S.image space.old) (λ bytes. ThreadsFreeChunks bytes heap.old.now.gaps) }
+    requires threads { IfSome (S.image space.old)
+        (λ bytes. ThreadsFreeChunks bytes heap.old.now.gaps) }
     ensures sound { S.is_sound space.new }
-    ensures extends { IfOk result (λ now. Both (ExtendsData heap.old.limit table (parts_of chunks.now) old added now heap.old.now heap.new.now) (S.image space.old) (S.image space.new)) }
+    ensures extends { IfOk result (λ now. Both
+        (ExtendsData heap.old.limit table (parts_of chunks.now) old added now heap.old.now
+        heap.new.now) (S.image space.old) (S.image space.new)) }
     ensures offset { IfOk result (λ now. HasOffset now.pointer) }
-    ensures full { (asked end : ℕ) → result ≡ Err (AdfError.Full asked end) → IsFullAt heap.old.limit (chunk_length_for added) (chunk_table_length (length chunks.now + 1)) heap.old.now (record { asked = asked; end = end }) }
+    ensures full { (asked end : ℕ) → result ≡ Err (AdfError.Full asked end)
+        → IsFullAt heap.old.limit (chunk_length_for added)
+        (chunk_table_length (length chunks.now + 1)) heap.old.now
+        (record { asked = asked; end = end }) }
     ensures kept { heap.new.kept ≡ heap.old.kept }
     ensures limit { heap.new.limit ≡ heap.old.limit }
     ensures heap { IsHeap heap.new.now }
     ensures pairs { pairs heap.new.now.gaps ≤ pairs heap.old.now.gaps }
-    ensures bytes { Both (ChangesOnly (changed_ranges (extents_in table (parts_of chunks.now)) heap.old.now heap.new.now)) (S.image space.old) (S.image space.new) }
+    ensures bytes { Both (ChangesOnly (changed_ranges
+        (extents_in table (parts_of chunks.now)) heap.old.now heap.new.now)) (S.image space.old)
+        (S.image space.new) }
     ensures effect { OnlyReads (S.state space.old) (S.state space.new) }
-    ensures cause { IfErr result (IsGrowRefusal (Ungivable (S.image space.old) (extents_in table (parts_of chunks.now)) heap.old.now) (S.state space.old).faults (S.state space.new).faults) }
+    ensures cause { IfErr result (IsGrowRefusal
+        (Ungivable (S.image space.old) (extents_in table (parts_of chunks.now)) heap.old.now)
+        (S.state space.old).faults (S.state space.new).faults) }
 {
     let count = chunks.len() as u64;
     let length = chunk_length(added);
@@ -257,19 +297,30 @@ pub(crate) fn grow<S: Space>(
     requires was { old ≤ have }
     requires size { (have < new) × (new ≤ 2 ^ 30) }
     requires heap { IsHeap heap.old.now }
-    requires threads { IfSome (S.image space.old) (λ bytes. ThreadsFreeChunks bytes heap.old.now.gaps) }
+    requires threads { IfSome (S.image space.old)
+        (λ bytes. ThreadsFreeChunks bytes heap.old.now.gaps) }
     ensures sound { S.is_sound space.new }
-    ensures grows { IfOk result (λ now. Both (GrowsData heap.old.limit table (parts_of chunks.now) old new now heap.old.now heap.new.now) (S.image space.old) (S.image space.new)) }
+    ensures grows { IfOk result (λ now.
+        Both (GrowsData heap.old.limit table (parts_of chunks.now) old new now heap.old.now
+        heap.new.now) (S.image space.old) (S.image space.new)) }
     ensures offset { IfOk result (λ now. HasOffset now.pointer) }
-    ensures full { (asked end : ℕ) → result ≡ Err (AdfError.Full asked end) → IsFullFor heap.old.limit table (parts_of chunks.now) new heap.old.now (record { asked = asked; end = end }) }
-    ensures room { (asked end : ℕ) → result ≡ Err (AdfError.Full asked end) → heap.old.limit * 4096 < heap.old.now.end + 1 + chunk_length_for new + room_of_table (length chunks.now) }
+    ensures full { (asked end : ℕ) → result ≡ Err (AdfError.Full asked end)
+        → IsFullFor heap.old.limit table (parts_of chunks.now) new heap.old.now
+        (record { asked = asked; end = end }) }
+    ensures room { (asked end : ℕ) → result ≡ Err (AdfError.Full asked end)
+        → heap.old.limit * 4096 < heap.old.now.end + 1 + chunk_length_for new
+        + room_of_table (length chunks.now) }
     ensures kept { heap.new.kept ≡ heap.old.kept }
     ensures limit { heap.new.limit ≡ heap.old.limit }
     ensures heap { IsHeap heap.new.now }
     ensures pairs { pairs heap.new.now.gaps ≤ pairs heap.old.now.gaps }
-    ensures bytes { Both (ChangesOnly (changed_ranges (extents_in table (parts_of chunks.now)) heap.old.now heap.new.now)) (S.image space.old) (S.image space.new) }
+    ensures bytes { Both (ChangesOnly (changed_ranges
+        (extents_in table (parts_of chunks.now)) heap.old.now heap.new.now)) (S.image space.old)
+        (S.image space.new) }
     ensures effect { OnlyReads (S.state space.old) (S.state space.new) }
-    ensures cause { IfErr result (IsGrowRefusal (Ungivable (S.image space.old) (extents_in table (parts_of chunks.now)) heap.old.now) (S.state space.old).faults (S.state space.new).faults) }
+    ensures cause { IfErr result (IsGrowRefusal
+        (Ungivable (S.image space.old) (extents_in table (parts_of chunks.now)) heap.old.now)
+        (S.state space.old).faults (S.state space.new).faults) }
 {
     if are_gathered(chunks.len()) {
         return match gather(heap, space, table, chunks, old, new) {

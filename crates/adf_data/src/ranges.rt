@@ -117,11 +117,13 @@ pub(crate) fn read_range<S: Space>(
     requires small { first + length into.old < 2 ^ 63 }
     ensures sound { S.is_sound space.new }
     ensures spot { IsSpot (parts_of chunks.now) spot.new }
-    ensures read { OnOk result (IsRead (parts_of chunks.now) first (length into.old) into.new (S.image space.old)) }
+    ensures read { OnOk result (IsRead (parts_of chunks.now) first (length into.old) into.new
+        (S.image space.old)) }
     ensures image { S.image space.new ≡ S.image space.old }
     ensures waits { S.waiting space.new ≡ S.waiting space.old }
     ensures effect { OnlyReads (S.state space.old) (S.state space.new) }
-    ensures cause { IfErr result (IsRefusal ⊥ (S.state space.old).faults (S.state space.new).faults) }
+    ensures cause { IfErr result (IsRefusal ⊥ (S.state space.old).faults
+        (S.state space.new).faults) }
 {
     let mut done = 0;
     while done < into.len() {
@@ -147,10 +149,13 @@ pub(crate) fn write_range<S: Space>(
     requires small { first + length from.now < 2 ^ 63 }
     ensures sound { S.is_sound space.new }
     ensures spot { IsSpot (parts_of chunks.now) spot.new }
-    ensures written { OnOk result (Both (WritesBytes (parts_of chunks.now) first from.now (length from.now)) (S.image space.old) (S.image space.new)) }
-    ensures bytes { Both (ChangesBytes (parts_of chunks.now) first (length from.now)) (S.image space.old) (S.image space.new) }
+    ensures written { OnOk result (Both (WritesBytes (parts_of chunks.now) first from.now
+        (length from.now)) (S.image space.old) (S.image space.new)) }
+    ensures bytes { Both (ChangesBytes (parts_of chunks.now) first (length from.now))
+        (S.image space.old) (S.image space.new) }
     ensures effect { OnlyReads (S.state space.old) (S.state space.new) }
-    ensures cause { IfErr result (IsRefusal ⊥ (S.state space.old).faults (S.state space.new).faults) }
+    ensures cause { IfErr result (IsRefusal ⊥ (S.state space.old).faults
+        (S.state space.new).faults) }
 {
     let mut done = 0;
     while done < from.len() {

@@ -20,10 +20,13 @@ use file_heap::Heap;
 pub(crate) fn take_range<S: Space>(heap: &mut Heap, space: &mut S, n: u64) -> Result<u64, AdfError>
     requires sound { S.is_sound space.old }
     requires some { (1 ≤ n) × (n ≤ 2 ^ 44) }
-    requires threads { IfSome (S.image space.old) (λ bytes. ThreadsFreeChunks bytes heap.old.now.gaps) }
+    requires threads { IfSome (S.image space.old)
+        (λ bytes. ThreadsFreeChunks bytes heap.old.now.gaps) }
     ensures sound { S.is_sound space.new }
-    ensures takes { IfOk result (λ place. heap_take heap.old.limit n heap.old.now ≡ Ok (place, heap.new.now)) }
-    ensures full { (asked end : ℕ) → result ≡ Err (AdfError.Full asked end) → heap_take heap.old.limit n heap.old.now ≡ Err (record { asked = asked; end = end }) }
+    ensures takes { IfOk result (λ place. heap_take heap.old.limit n heap.old.now
+        ≡ Ok (place, heap.new.now)) }
+    ensures full { (asked end : ℕ) → result ≡ Err (AdfError.Full asked end)
+        → heap_take heap.old.limit n heap.old.now ≡ Err (record { asked = asked; end = end }) }
     ensures refused { OnErr result (heap.new.now ≡ heap.old.now) }
     ensures kept { heap.new.kept ≡ heap.old.kept }
     ensures limit { heap.new.limit ≡ heap.old.limit }
@@ -32,13 +35,18 @@ pub(crate) fn take_range<S: Space>(heap: &mut Heap, space: &mut S, n: u64) -> Re
     ensures within { IfOk result (IsTakenWithin n heap.new.now) }
     ensures covers { IfOk result (TakesCover n heap.old.now heap.new.now) }
     ensures pairs { pairs heap.new.now.gaps ≤ pairs heap.old.now.gaps }
-    ensures threads { OnOk result (IfSome (S.image space.new) (λ bytes. ThreadsFreeChunks bytes heap.new.now.gaps)) }
-    ensures bytes { Both (ChangesOnly (heap_fields ++ heap.old.now.gaps)) (S.image space.old) (S.image space.new) }
-    ensures end { OnOk result (Both (MovesEnd heap.old.now.end heap.new.now.end) (S.image space.old) (S.image space.new)) }
-    ensures fillers { OnOk result (Both (KeepsFillers heap.old.now.gaps heap.new.now.gaps) (S.image space.old) (S.image space.new)) }
+    ensures threads { OnOk result (IfSome (S.image space.new)
+        (λ bytes. ThreadsFreeChunks bytes heap.new.now.gaps)) }
+    ensures bytes { Both (ChangesOnly (heap_fields ++ heap.old.now.gaps)) (S.image space.old)
+        (S.image space.new) }
+    ensures end { OnOk result (Both (MovesEnd heap.old.now.end heap.new.now.end) (S.image space.old)
+        (S.image space.new)) }
+    ensures fillers { OnOk result (Both (KeepsFillers heap.old.now.gaps heap.new.now.gaps)
+        (S.image space.old) (S.image space.new)) }
     ensures effect { OnlyReads (S.state space.old) (S.state space.new) }
     ensures waits { S.waiting space.new ≤ S.waiting space.old + 9 }
-    ensures cause { IfErr result (IsGrowRefusal (IsUntold (S.image space.old)) (S.state space.old).faults (S.state space.new).faults) }
+    ensures cause { IfErr result (IsGrowRefusal (IsUntold (S.image space.old))
+        (S.state space.old).faults (S.state space.new).faults) }
 {
     heap.take(space, n)
 }
@@ -55,7 +63,8 @@ pub(crate) fn give_range<S: Space>(
     requires some { 1 ≤ n }
     requires near { place + n ≤ 2 ^ 45 }
     requires heap { IsHeap heap.old.now }
-    requires threads { IfSome (S.image space.old) (λ bytes. ThreadsFreeChunks bytes heap.old.now.gaps) }
+    requires threads { IfSome (S.image space.old)
+        (λ bytes. ThreadsFreeChunks bytes heap.old.now.gaps) }
     ensures sound { S.is_sound space.new }
     ensures gives { OnOk result (heap.new.now ≡ heap_give place n heap.old.now) }
     ensures kept { heap.new.kept ≡ heap.old.kept }
@@ -63,13 +72,19 @@ pub(crate) fn give_range<S: Space>(
     ensures last { heap.new.now.end ≡ heap.old.now.end }
     ensures heap { IsHeap heap.new.now }
     ensures pairs { pairs heap.new.now.gaps ≤ pairs heap.old.now.gaps }
-    ensures threads { OnOk result (IfSome (S.image space.new) (λ bytes. ThreadsFreeChunks bytes heap.new.now.gaps)) }
-    ensures bytes { Both (ChangesOnly (heap_fields ++ range place n ∷ heap.old.now.gaps)) (S.image space.old) (S.image space.new) }
-    ensures end { OnOk result (Both (MovesEnd heap.old.now.end heap.new.now.end) (S.image space.old) (S.image space.new)) }
-    ensures fillers { OnOk result (Both (KeepsFillers heap.old.now.gaps heap.new.now.gaps) (S.image space.old) (S.image space.new)) }
+    ensures threads { OnOk result (IfSome (S.image space.new)
+        (λ bytes. ThreadsFreeChunks bytes heap.new.now.gaps)) }
+    ensures bytes { Both (ChangesOnly (heap_fields ++ range place n ∷ heap.old.now.gaps))
+        (S.image space.old) (S.image space.new) }
+    ensures end { OnOk result (Both (MovesEnd heap.old.now.end heap.new.now.end) (S.image space.old)
+        (S.image space.new)) }
+    ensures fillers { OnOk result (Both (KeepsFillers heap.old.now.gaps heap.new.now.gaps)
+        (S.image space.old) (S.image space.new)) }
     ensures effect { OnlyReads (S.state space.old) (S.state space.new) }
     ensures waits { S.waiting space.new ≤ S.waiting space.old + 12 }
-    ensures cause { IfErr result (IsRefusal (IsUntold (S.image space.old) ⊎ (MayGive place n heap.old.now → ⊥)) (S.state space.old).faults (S.state space.new).faults) }
+    ensures cause { IfErr result (IsRefusal (IsUntold (S.image space.old)
+        ⊎ (MayGive place n heap.old.now → ⊥)) (S.state space.old).faults
+        (S.state space.new).faults) }
 {
     if !heap.may_give(place, n) {
         return Err(AdfError::Layout { rule: 30, place });

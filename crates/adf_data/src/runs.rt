@@ -35,9 +35,11 @@ fn stretch_at(runs: &[Run], i: usize, element: u64) -> Stretch
     ensures first { result.first ≡ (run_at runs.now i).first * element }
     ensures count { result.count ≡ (run_at runs.now i).count * element }
     ensures small { result.first + result.count ≤ 2 ^ 30 }
-    ensures ends { (limit : ℕ) → All (EndsIn element limit) runs.now → result.first + result.count ≤ limit }
+    ensures ends { (limit : ℕ) → All (EndsIn element limit) runs.now
+        → result.first + result.count ≤ limit }
     ensures room { run_bytes element (take i runs.now) + result.count ≤ run_bytes element runs.now }
-    ensures more { run_bytes element (take (i + 1) runs.now) ≡ run_bytes element (take i runs.now) + result.count }
+    ensures more { run_bytes element (take (i + 1) runs.now)
+        ≡ run_bytes element (take i runs.now) + result.count }
 {
     let run = runs[i];
     Stretch {
@@ -88,11 +90,13 @@ fn read_each<S: Space>(
     requires within { All (EndsIn element (payload_length (parts_of chunks.now))) runs.now }
     requires room { length into.old ≡ run_bytes element runs.now }
     ensures sound { S.is_sound space.new }
-    ensures read { OnOk result (RunsRead (parts_of chunks.now) element runs.now into.new (S.image space.old)) }
+    ensures read { OnOk result (RunsRead (parts_of chunks.now) element runs.now into.new
+        (S.image space.old)) }
     ensures image { S.image space.new ≡ S.image space.old }
     ensures waits { S.waiting space.new ≡ S.waiting space.old }
     ensures effect { OnlyReads (S.state space.old) (S.state space.new) }
-    ensures cause { IfErr result (IsRefusal ⊥ (S.state space.old).faults (S.state space.new).faults) }
+    ensures cause { IfErr result (IsRefusal ⊥ (S.state space.old).faults
+        (S.state space.new).faults) }
 {
     let mut spot = START;
     let mut done = 0;
@@ -115,9 +119,11 @@ fn text_length(chunks: &[Chunk], element: u64, runs: &[Run]) -> Result<usize, Ad
     requires few { length chunks.now < 65536 }
     requires sane { All IsSane chunks.now }
     requires small { All (EndsIn element (2 ^ 30)) runs.now }
-    ensures within { OnOk result (All (EndsIn element (payload_length (parts_of chunks.now))) runs.now) }
+    ensures within { OnOk result (All (EndsIn element (payload_length (parts_of chunks.now)))
+        runs.now) }
     ensures length { IfOk result (λ n. n ≡ run_bytes element runs.now) }
-    ensures cause { IfErr result (IsShort (All (EndsIn element (payload_length (parts_of chunks.now))) runs.now → ⊥)) }
+    ensures cause { IfErr result (IsShort (All
+        (EndsIn element (payload_length (parts_of chunks.now))) runs.now → ⊥)) }
 {
     if !end_in(runs, element, payload_total(chunks)) {
         return Err(AdfError::Layout { rule: 27, place: 0 });
@@ -158,11 +164,14 @@ fn read_text<S: Space>(
     requires sane { All IsSane chunks.now }
     requires small { All (EndsIn element (2 ^ 30)) runs.now }
     ensures sound { S.is_sound space.new }
-    ensures read { IfOk result (λ text. RunsRead (parts_of chunks.now) element runs.now text.items (S.image space.old)) }
+    ensures read { IfOk result (λ text. RunsRead (parts_of chunks.now) element runs.now text.items
+        (S.image space.old)) }
     ensures image { S.image space.new ≡ S.image space.old }
     ensures waits { S.waiting space.new ≡ S.waiting space.old }
     ensures effect { OnlyReads (S.state space.old) (S.state space.new) }
-    ensures cause { IfErr result (IsRefusal (All (EndsIn element (payload_length (parts_of chunks.now))) runs.now → ⊥) (S.state space.old).faults (S.state space.new).faults) }
+    ensures cause { IfErr result (IsRefusal (All
+        (EndsIn element (payload_length (parts_of chunks.now))) runs.now
+        → ⊥) (S.state space.old).faults (S.state space.new).faults) }
 {
     let total = match text_length(chunks, element, runs) {
         Ok(total) => total,
@@ -190,11 +199,15 @@ pub fn read_runs<S: Space>(
     requires offset { HasOffset at.now.pointer }
     requires small { All (EndsIn element (2 ^ 30)) runs.now }
     ensures sound { S.is_sound space.new }
-    ensures read { IfOk result (λ text. (parts : NodeParts) (data' : List ℕ) → Holds at.now parts data' (S.image space.old) → All (EndsIn element (length data')) runs.now → text ≡ element_bytes element (spread runs.now) data') }
+    ensures read { IfOk result (λ text. (parts : NodeParts) (data' : List ℕ)
+        → Holds at.now parts data' (S.image space.old)
+        → All (EndsIn element (length data')) runs.now
+        → text ≡ element_bytes element (spread runs.now) data') }
     ensures image { S.image space.new ≡ S.image space.old }
     ensures waits { S.waiting space.new ≡ S.waiting space.old }
     ensures effect { OnlyReads (S.state space.old) (S.state space.new) }
-    ensures cause { IfErr result (IsRefusal (NoRuns at.now element runs.now (S.image space.old)) (S.state space.old).faults (S.state space.new).faults) }
+    ensures cause { IfErr result (IsRefusal (NoRuns at.now element runs.now (S.image space.old))
+        (S.state space.old).faults (S.state space.new).faults) }
 {
     let chunks = match list_chunks(alloc, space, *at) {
         Ok(chunks) => chunks,
@@ -220,10 +233,13 @@ fn write_each<S: Space>(
     requires within { All (EndsIn element (payload_length (parts_of chunks.now))) runs.now }
     requires room { length from.now ≡ run_bytes element runs.now }
     ensures sound { S.is_sound space.new }
-    ensures written { OnOk result (Both (WritesRuns (parts_of chunks.now) element runs.now from.now) (S.image space.old) (S.image space.new)) }
-    ensures bytes { Both (ChangesPayloads (parts_of chunks.now)) (S.image space.old) (S.image space.new) }
+    ensures written { OnOk result (Both (WritesRuns (parts_of chunks.now) element runs.now from.now)
+        (S.image space.old) (S.image space.new)) }
+    ensures bytes { Both (ChangesPayloads (parts_of chunks.now)) (S.image space.old)
+        (S.image space.new) }
     ensures effect { OnlyReads (S.state space.old) (S.state space.new) }
-    ensures cause { IfErr result (IsRefusal ⊥ (S.state space.old).faults (S.state space.new).faults) }
+    ensures cause { IfErr result (IsRefusal ⊥ (S.state space.old).faults
+        (S.state space.new).faults) }
 {
     let mut spot = START;
     let mut done = 0;
@@ -259,10 +275,12 @@ pub fn write_runs<S: Space>(
     requires small { All (EndsIn element (2 ^ 30)) runs.now }
     requires bytes { length bytes.now ≡ element * length (spread runs.now) }
     ensures sound { S.is_sound space.new }
-    ensures written { OnOk result (Both (WritesElements at.now element runs.now bytes.now) (S.image space.old) (S.image space.new)) }
+    ensures written { OnOk result (Both (WritesElements at.now element runs.now bytes.now)
+        (S.image space.old) (S.image space.new)) }
     ensures alone { Both (ChangesDataAlone at.now) (S.image space.old) (S.image space.new) }
     ensures effect { OnlyReads (S.state space.old) (S.state space.new) }
-    ensures cause { IfErr result (IsRefusal (NoRuns at.now element runs.now (S.image space.old)) (S.state space.old).faults (S.state space.new).faults) }
+    ensures cause { IfErr result (IsRefusal (NoRuns at.now element runs.now (S.image space.old))
+        (S.state space.old).faults (S.state space.new).faults) }
 {
     let chunks = match list_chunks(alloc, space, *at) {
         Ok(chunks) => chunks,
@@ -285,10 +303,14 @@ fn write_bytes<S: Space>(
     requires small { All (EndsIn element (2 ^ 30)) runs.now }
     requires bytes { length bytes.now ≡ element * length (spread runs.now) }
     ensures sound { S.is_sound space.new }
-    ensures written { OnOk result (Both (WritesRuns (parts_of chunks.now) element runs.now bytes.now) (S.image space.old) (S.image space.new)) }
-    ensures changes { Both (ChangesPayloads (parts_of chunks.now)) (S.image space.old) (S.image space.new) }
+    ensures written { OnOk result (Both (WritesRuns
+        (parts_of chunks.now) element runs.now bytes.now) (S.image space.old) (S.image space.new)) }
+    ensures changes { Both (ChangesPayloads (parts_of chunks.now)) (S.image space.old)
+        (S.image space.new) }
     ensures effect { OnlyReads (S.state space.old) (S.state space.new) }
-    ensures cause { IfErr result (IsRefusal (All (EndsIn element (payload_length (parts_of chunks.now))) runs.now → ⊥) (S.state space.old).faults (S.state space.new).faults) }
+    ensures cause { IfErr result (IsRefusal (All
+        (EndsIn element (payload_length (parts_of chunks.now))) runs.now
+        → ⊥) (S.state space.old).faults (S.state space.new).faults) }
 {
     if !end_in(runs, element, payload_total(chunks)) {
         return Err(AdfError::Layout { rule: 27, place: 0 });

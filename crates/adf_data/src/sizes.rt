@@ -40,22 +40,31 @@ pub fn release<S: Space>(
     requires sound { S.is_sound space.old }
     requires offset { HasOffset at.old.pointer }
     requires heap { IsHeap heap.old.now }
-    requires threads { IfSome (S.image space.old) (λ bytes. ThreadsFreeChunks bytes heap.old.now.gaps) }
+    requires threads { IfSome (S.image space.old)
+        (λ bytes. ThreadsFreeChunks bytes heap.old.now.gaps) }
     ensures sound { S.is_sound space.new }
     ensures gone { OnOk result (at.new ≡ record { count = 0; pointer = DiskPtr.Blank }) }
     ensures stays { OnErr result (at.new ≡ at.old) }
-    ensures gives { OnOk result ((parts : NodeParts) → Named at.old parts (S.image space.old) → heap.new.now ≡ give_all (data_extents parts) heap.old.now) }
+    ensures gives { OnOk result ((parts : NodeParts) → Named at.old parts (S.image space.old)
+        → heap.new.now ≡ give_all (data_extents parts) heap.old.now) }
     ensures kept { heap.new.kept ≡ heap.old.kept }
     ensures limit { heap.new.limit ≡ heap.old.limit }
     ensures heap { IsHeap heap.new.now }
     ensures pairs { pairs heap.new.now.gaps ≤ pairs heap.old.now.gaps }
-    ensures threads { OnOk result (IfSome (S.image space.new) (λ bytes. ThreadsFreeChunks bytes heap.new.now.gaps)) }
-    ensures bytes { (parts : NodeParts) → Named at.old parts (S.image space.old) → Both (ChangesOnly (heap_fields ++ data_extents parts ++ heap.old.now.gaps)) (S.image space.old) (S.image space.new) }
-    ensures end { OnOk result (Both (MovesEnd heap.old.now.end heap.new.now.end) (S.image space.old) (S.image space.new)) }
-    ensures fillers { OnOk result (Both (KeepsFillers heap.old.now.gaps heap.new.now.gaps) (S.image space.old) (S.image space.new)) }
+    ensures threads { OnOk result (IfSome (S.image space.new)
+        (λ bytes. ThreadsFreeChunks bytes heap.new.now.gaps)) }
+    ensures bytes { (parts : NodeParts) → Named at.old parts (S.image space.old)
+        → Both (ChangesOnly (heap_fields ++ data_extents parts ++ heap.old.now.gaps))
+        (S.image space.old) (S.image space.new) }
+    ensures end { OnOk result (Both (MovesEnd heap.old.now.end heap.new.now.end) (S.image space.old)
+        (S.image space.new)) }
+    ensures fillers { OnOk result (Both (KeepsFillers heap.old.now.gaps heap.new.now.gaps)
+        (S.image space.old) (S.image space.new)) }
     ensures effect { OnlyReads (S.state space.old) (S.state space.new) }
     ensures waits { S.waiting space.new ≤ S.waiting space.old + 12 * (at.old.count + 1) }
-    ensures cause { IfErr result (IsRefusal ((parts : NodeParts) → Named at.old parts (S.image space.old) → MayGiveAll (data_extents parts) heap.old.now → ⊥) (S.state space.old).faults (S.state space.new).faults) }
+    ensures cause { IfErr result (IsRefusal ((parts : NodeParts)
+        → Named at.old parts (S.image space.old) → MayGiveAll (data_extents parts) heap.old.now
+        → ⊥) (S.state space.old).faults (S.state space.new).faults) }
 {
     let place = *at;
     let chunks = match list_chunks(alloc, space, place) {
@@ -79,13 +88,17 @@ fn clear_between<S: Space>(
 ) -> Result<(), AdfError>
     requires sound { S.is_sound space.old }
     requires sane { All IsSane chunks.now }
-    requires within { (from ≤ payload_length (parts_of chunks.now)) × (to ≤ payload_length (parts_of chunks.now)) }
+    requires within { (from ≤ payload_length (parts_of chunks.now))
+        × (to ≤ payload_length (parts_of chunks.now)) }
     requires small { (from ≤ 2 ^ 30) × (to ≤ 2 ^ 30) }
     ensures sound { S.is_sound space.new }
-    ensures zeroed { OnOk result (Both (ZeroesBytes (parts_of chunks.now) from (to - from)) (S.image space.old) (S.image space.new)) }
-    ensures bytes { Both (ChangesBytes (parts_of chunks.now) from (to - from)) (S.image space.old) (S.image space.new) }
+    ensures zeroed { OnOk result (Both (ZeroesBytes (parts_of chunks.now) from (to - from))
+        (S.image space.old) (S.image space.new)) }
+    ensures bytes { Both (ChangesBytes (parts_of chunks.now) from (to - from)) (S.image space.old)
+        (S.image space.new) }
     ensures effect { OnlyReads (S.state space.old) (S.state space.new) }
-    ensures cause { IfErr result (IsRefusal ⊥ (S.state space.old).faults (S.state space.new).faults) }
+    ensures cause { IfErr result (IsRefusal ⊥ (S.state space.old).faults
+        (S.state space.new).faults) }
 {
     zero_range(space, chunks, from, to.saturating_sub(from))
 }
@@ -106,21 +119,33 @@ pub fn resize<S: Space>(
     requires was { old ≤ 2 ^ 30 }
     requires size { (1 ≤ new) × (new ≤ 2 ^ 30) }
     requires heap { IsHeap heap.old.now }
-    requires threads { IfSome (S.image space.old) (λ bytes. ThreadsFreeChunks bytes heap.old.now.gaps) }
+    requires threads { IfSome (S.image space.old)
+        (λ bytes. ThreadsFreeChunks bytes heap.old.now.gaps) }
     ensures sound { S.is_sound space.new }
-    ensures resized { OnOk result (Both (ResizesData heap.old.limit old new at.old at.new heap.old.now heap.new.now) (S.image space.old) (S.image space.new)) }
+    ensures resized { OnOk result (Both
+        (ResizesData heap.old.limit old new at.old at.new heap.old.now heap.new.now)
+        (S.image space.old) (S.image space.new)) }
     ensures offset { HasOffset at.new.pointer }
     ensures stays { OnErr result (at.new ≡ at.old) }
     ensures kept { heap.new.kept ≡ heap.old.kept }
     ensures limit { heap.new.limit ≡ heap.old.limit }
     ensures heap { IsHeap heap.new.now }
     ensures pairs { pairs heap.new.now.gaps ≤ pairs heap.old.now.gaps }
-    ensures bytes { (parts : NodeParts) → Named at.old parts (S.image space.old) → Both (ChangesOnly (sized_ranges parts heap.old.now heap.new.now)) (S.image space.old) (S.image space.new) }
-    ensures full { (asked end : ℕ) → result ≡ Err (AdfError.Full asked end) → heap.old.limit * 4096 < heap.old.now.end + 1 + chunk_length_for new + room_of_table at.old.count }
-    ensures exact { (asked end : ℕ) → result ≡ Err (AdfError.Full asked end) → (parts : NodeParts) (bytes : Option (List ℕ)) → Owns at.old old parts bytes heap.old.now (S.image space.old)
-        → resized_spot heap.old.limit new (parts, heap.old.now) ≡ Err (record { asked = asked; end = end }) }
+    ensures bytes { (parts : NodeParts) → Named at.old parts (S.image space.old)
+        → Both (ChangesOnly (sized_ranges parts heap.old.now heap.new.now)) (S.image space.old)
+        (S.image space.new) }
+    ensures full { (asked end : ℕ) → result ≡ Err (AdfError.Full asked end)
+        → heap.old.limit * 4096 < heap.old.now.end + 1 + chunk_length_for new
+        + room_of_table at.old.count }
+    ensures exact { (asked end : ℕ) → result ≡ Err (AdfError.Full asked end)
+        → (parts : NodeParts) (bytes : Option (List ℕ))
+        → Owns at.old old parts bytes heap.old.now (S.image space.old)
+        → resized_spot heap.old.limit new (parts, heap.old.now)
+        ≡ Err (record { asked = asked; end = end }) }
     ensures effect { OnlyReads (S.state space.old) (S.state space.new) }
-    ensures cause { IfErr result (IsGrowRefusal ((parts : NodeParts) (bytes : Option (List ℕ)) → Owns at.old old parts bytes heap.old.now (S.image space.old) → ⊥) (S.state space.old).faults (S.state space.new).faults) }
+    ensures cause { IfErr result (IsGrowRefusal ((parts : NodeParts) (bytes : Option (List ℕ))
+        → Owns at.old old parts bytes heap.old.now (S.image space.old)
+        → ⊥) (S.state space.old).faults (S.state space.new).faults) }
 {
     let place = *at;
     let chunks = match list_chunks(alloc, space, place) {

@@ -17,7 +17,8 @@ pub(crate) fn load<S: Space>(space: &mut S, place: u64, into: &mut [u8]) -> Resu
     ensures image { S.image space.new ≡ S.image space.old }
     ensures waits { S.waiting space.new ≡ S.waiting space.old }
     ensures effect { OnlyReads (S.state space.old) (S.state space.new) }
-    ensures cause { IfErr result (IsRefusal ⊥ (S.state space.old).faults (S.state space.new).faults) }
+    ensures cause { IfErr result (IsRefusal ⊥ (S.state space.old).faults
+        (S.state space.new).faults) }
 {
     match space.read(place, into) {
         Ok(()) => Ok(()),
@@ -31,11 +32,14 @@ pub(crate) fn store<S: Space>(space: &mut S, place: u64, from: &[u8]) -> Result<
     requires sound { S.is_sound space.old }
     requires within { place + length from.now ≤ 2 ^ 44 }
     ensures sound { S.is_sound space.new }
-    ensures written { OnOk result (Both (Wrote place from.now) (S.image space.old) (S.image space.new)) }
-    ensures bytes { Both (KeepsOutside place (length from.now)) (S.image space.old) (S.image space.new) }
+    ensures written { OnOk result (Both (Wrote place from.now) (S.image space.old)
+        (S.image space.new)) }
+    ensures bytes { Both (KeepsOutside place (length from.now)) (S.image space.old)
+        (S.image space.new) }
     ensures waits { S.waiting space.new ≤ S.waiting space.old + blocks_of place (length from.now) }
     ensures effect { OnlyReads (S.state space.old) (S.state space.new) }
-    ensures cause { IfErr result (IsRefusal ⊥ (S.state space.old).faults (S.state space.new).faults) }
+    ensures cause { IfErr result (IsRefusal ⊥ (S.state space.old).faults
+        (S.state space.new).faults) }
 {
     match write_bytes(space, place, from) {
         Ok(()) => Ok(()),

@@ -41,7 +41,8 @@ fn put(text: &mut Vec<u8>, more: &[u8]) -> Result<(), AdfError>
 // The entries of some chunks behind a text.
 fn put_entries(text: &mut Vec<u8>, chunks: &[Chunk]) -> Result<(), AdfError>
     requires sane { All IsSane chunks.now }
-    ensures text { OnOk result (text.new.items ≡ text.old.items ++ in_row (map entry_of (parts_of chunks.now))) }
+    ensures text { OnOk result (text.new.items
+        ≡ text.old.items ++ in_row (map entry_of (parts_of chunks.now))) }
     ensures cause { IfErr result (λ e. e ≡ AdfError.Memory) }
 {
     for i in 0..chunks.len() {
@@ -64,7 +65,9 @@ pub(crate) fn table_text(
     requires near { place + 44 + 24 * length chunks.now ≤ 2 ^ 44 }
     requires sane { All IsSane chunks.now }
     requires last { IsSane last }
-    ensures text { IfOk result (λ text. text.items ≡ framed_text Chunks place (in_row (map entry_of (parts_of chunks.now ++ part_of last ∷ [])))) }
+    ensures text { IfOk result (λ text. text.items
+        ≡ framed_text Chunks place
+        (in_row (map entry_of (parts_of chunks.now ++ part_of last ∷ [])))) }
     ensures long { IfOk result (λ text. length text.items ≡ 44 + 24 * length chunks.now) }
     ensures cause { IfErr result (λ e. e ≡ AdfError.Memory) }
 {

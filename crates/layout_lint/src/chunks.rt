@@ -103,11 +103,14 @@ pub fn look_at_chunk_entry<B: Blocks>(
     requires ready { IsReady (B.is_sound blocks.old) (B.state blocks.old).held page.old }
     requires within { at + 24 ≤ 2 ^ 44 }
     ensures ready { IsReady (B.is_sound blocks.new) (B.state blocks.new).held page.new }
-    ensures rows { Told (B.state blocks.old).held (λ image. at + 24 ≤ length image → Finds (chunk_entry_row image at ∷ []) result) }
-    ensures says { IfOk result (λ listed. Told (B.state blocks.old).held (λ image. at + 24 ≤ length image → entry_visit listed ≡ listed_chunk image at)) }
+    ensures rows { Told (B.state blocks.old).held (λ image. at + 24 ≤ length image
+        → Finds (chunk_entry_row image at ∷ []) result) }
+    ensures says { IfOk result (λ listed. Told (B.state blocks.old).held (λ image. at + 24
+        ≤ length image → entry_visit listed ≡ listed_chunk image at)) }
     ensures bound { IfOk result IsNear }
     ensures effect { ReadsFew 2 (B.state blocks.old) (B.state blocks.new) }
-    ensures cause { IfErr result (HasCount (B.state blocks.old).faults (B.state blocks.new).faults) }
+    ensures cause { IfErr result (HasCount (B.state blocks.old).faults
+        (B.state blocks.new).faults) }
 {
     let bytes = match field_at::<B, 24>(blocks, page, at) {
         Ok(bytes) => bytes,
@@ -129,13 +132,18 @@ fn look_at_chunk_entries<B: Blocks>(
     requires ready { IsReady (B.is_sound blocks.old) (B.state blocks.old).held page.old }
     requires within { chunks.place + 16 + 24 * chunks.count ≤ 2 ^ 44 }
     ensures ready { IsReady (B.is_sound blocks.new) (B.state blocks.new).held page.new }
-    ensures rows { Told (B.state blocks.old).held (λ image. chunks.place + 16 + 24 * chunks.count ≤ length image
-        → Finds (map (λ i. chunk_entry_row image (chunks.place + 16 + 24 * i)) (count_up chunks.count)) result) }
-    ensures says { IfOk result (λ list. Told (B.state blocks.old).held (λ image. chunks.place + 16 + 24 * chunks.count ≤ length image → map entry_visit list.items ≡ listed_chunks image chunks.place chunks.count)) }
+    ensures rows { Told (B.state blocks.old).held (λ image. chunks.place + 16 + 24 * chunks.count
+        ≤ length image
+        → Finds (map (λ i. chunk_entry_row image (chunks.place + 16 + 24 * i))
+        (count_up chunks.count)) result) }
+    ensures says { IfOk result (λ list. Told (B.state blocks.old).held
+        (λ image. chunks.place + 16 + 24 * chunks.count ≤ length image
+        → map entry_visit list.items ≡ listed_chunks image chunks.place chunks.count)) }
     ensures count { IfOk result (λ list. length list.items ≡ chunks.count) }
     ensures near { IfOk result (λ list. All IsNear list.items) }
     ensures effect { ReadsFew (2 * chunks.count) (B.state blocks.old) (B.state blocks.new) }
-    ensures cause { IfErr result (MayLackMemory (B.state blocks.old).faults (B.state blocks.new).faults) }
+    ensures cause { IfErr result (MayLackMemory (B.state blocks.old).faults
+        (B.state blocks.new).faults) }
 {
     let mut list = Vec::new(alloc);
     for position in 0..chunks.count {
@@ -164,15 +172,20 @@ pub fn look_at_chunk_table<B: Blocks>(
     requires end { span.end < 2 ^ 44 }
     requires place { chunks.place < 2 ^ 44 }
     ensures ready { IsReady (B.is_sound blocks.new) (B.state blocks.new).held page.new }
-    ensures rows { Told (B.state blocks.old).held (λ image. span.end < length image → Finds (chunk_table_rows image span.end used chunks.place chunks.count) result) }
-    ensures says { IfOk result (λ list. Told (B.state blocks.old).held (λ image. span.end < length image → map entry_visit list.items ≡ listed_chunks image chunks.place chunks.count)) }
+    ensures rows { Told (B.state blocks.old).held (λ image. span.end < length image
+        → Finds (chunk_table_rows image span.end used chunks.place chunks.count) result) }
+    ensures says { IfOk result (λ list. Told (B.state blocks.old).held (λ image. span.end
+        < length image → map entry_visit list.items
+        ≡ listed_chunks image chunks.place chunks.count)) }
     ensures count { IfOk result (λ list. length list.items ≡ chunks.count) }
     ensures near { IfOk result (λ list. All IsNear list.items) }
-    ensures fits { OnOk result ((266 ≤ chunks.place) × (chunks.place + chunk_table_length chunks.count ≤ span.end + 1)) }
+    ensures fits { OnOk result ((266 ≤ chunks.place)
+        × (chunks.place + chunk_table_length chunks.count ≤ span.end + 1)) }
     ensures room { OnOk result (used + chunk_table_length chunks.count ≤ span.end + 1) }
     ensures effect { ReadsFew (2 * chunks.count + 4) (B.state blocks.old) (B.state blocks.new) }
     ensures short { ReadsFew (span.end + 5) (B.state blocks.old) (B.state blocks.new) }
-    ensures cause { IfErr result (MayLackMemory (B.state blocks.old).faults (B.state blocks.new).faults) }
+    ensures cause { IfErr result (MayLackMemory (B.state blocks.old).faults
+        (B.state blocks.new).faults) }
 {
     let length = chunks.table_length();
     let tail = chunks.tail();
@@ -218,16 +231,24 @@ pub fn look_at_listing<B: Blocks>(
     requires used { used ≤ span.end + 1 }
     requires place { chunks.place < 2 ^ 44 }
     ensures ready { IsReady (B.is_sound blocks.new) (B.state blocks.new).held page.new }
-    ensures rows { Told (B.state blocks.old).held (λ image. span.end < length image → Finds (rows_unless (nat_lt chunks.count 2) (chunk_table_rows image span.end used chunks.place chunks.count)) result) }
-    ensures used { IfOk result (λ framed. framed.used ≡ used + total_length (list_extents chunks.place chunks.count)) }
-    ensures extents { OnOk result (extents.new.items ≡ extents.old.items ++ list_extents chunks.place chunks.count) }
-    ensures fits { OnOk result (1 < chunks.count → chunks.place + chunk_table_length chunks.count ≤ span.end + 1) }
-    ensures listed { IfOk result (λ framed. Told (B.state blocks.old).held (λ image. span.end < length image → AreListed image chunks.place chunks.count framed.list.items)) }
+    ensures rows { Told (B.state blocks.old).held (λ image. span.end < length image
+        → Finds (rows_unless (nat_lt chunks.count 2)
+        (chunk_table_rows image span.end used chunks.place chunks.count)) result) }
+    ensures used { IfOk result (λ framed. framed.used
+        ≡ used + total_length (list_extents chunks.place chunks.count)) }
+    ensures extents { OnOk result (extents.new.items
+        ≡ extents.old.items ++ list_extents chunks.place chunks.count) }
+    ensures fits { OnOk result (1 < chunks.count
+        → chunks.place + chunk_table_length chunks.count ≤ span.end + 1) }
+    ensures listed { IfOk result (λ framed. Told (B.state blocks.old).held (λ image. span.end
+        < length image → AreListed image chunks.place chunks.count framed.list.items)) }
     ensures list { IfOk result (λ framed. IsList chunks.count framed.list.items) }
     ensures room { IfOk result (λ framed. framed.used ≤ span.end + 1) }
-    ensures few { IfOk result (λ framed. ReadsFew (framed.used - used) (B.state blocks.old) (B.state blocks.new)) }
+    ensures few { IfOk result (λ framed. ReadsFew (framed.used - used) (B.state blocks.old)
+        (B.state blocks.new)) }
     ensures short { ReadsFew (span.end + 5) (B.state blocks.old) (B.state blocks.new) }
-    ensures cause { IfErr result (MayLackMemory (B.state blocks.old).faults (B.state blocks.new).faults) }
+    ensures cause { IfErr result (MayLackMemory (B.state blocks.old).faults
+        (B.state blocks.new).faults) }
 {
     if !chunks.are_listed() {
         return Ok(Framed {
@@ -254,7 +275,8 @@ fn chunk_at(chunks: Chunks, list: &[Listed], position: u16) -> Chunk
     requires place { chunks.place < 2 ^ 44 }
     requires within { position < chunks.count }
     requires list { IsList chunks.count list.now }
-    ensures says { (image : List ℕ) → AreListed image chunks.place chunks.count list.now → visit_of result ≡ chunk_visit image chunks.place chunks.count position }
+    ensures says { (image : List ℕ) → AreListed image chunks.place chunks.count list.now
+        → visit_of result ≡ chunk_visit image chunks.place chunks.count position }
     ensures bound { result.place < 2 ^ 44 }
 {
     if !chunks.are_listed() {
@@ -315,11 +337,15 @@ pub fn look_at_chunk<B: Blocks>(
     requires end { span.end < 2 ^ 44 }
     requires place { chunk.place < 2 ^ 44 }
     ensures ready { IsReady (B.is_sound blocks.new) (B.state blocks.new).held page.new }
-    ensures rows { Told (B.state blocks.old).held (λ image. span.end < length image → Finds (one_chunk_rows image span.end used (visit_of chunk)) result) }
-    ensures says { IfOk result (λ n. Told (B.state blocks.old).held (λ image. span.end < length image → n ≡ chunk_length image chunk.place)) }
-    ensures fits { IfOk result (λ n. (266 ≤ chunk.place) × (21 ≤ n) × (chunk.place + n ≤ span.end + 1) × (used + n ≤ span.end + 1)) }
+    ensures rows { Told (B.state blocks.old).held (λ image. span.end < length image
+        → Finds (one_chunk_rows image span.end used (visit_of chunk)) result) }
+    ensures says { IfOk result (λ n. Told (B.state blocks.old).held (λ image. span.end
+        < length image → n ≡ chunk_length image chunk.place)) }
+    ensures fits { IfOk result (λ n. (266 ≤ chunk.place) × (21 ≤ n)
+        × (chunk.place + n ≤ span.end + 1) × (used + n ≤ span.end + 1)) }
     ensures effect { ReadsFew 4 (B.state blocks.old) (B.state blocks.new) }
-    ensures cause { IfErr result (HasCount (B.state blocks.old).faults (B.state blocks.new).faults) }
+    ensures cause { IfErr result (HasCount (B.state blocks.old).faults
+        (B.state blocks.new).faults) }
 {
     let mark = Mark {
         part: Part::Data,
@@ -371,16 +397,28 @@ pub fn look_at_chunks<B: Blocks>(
     requires place { chunks.place < 2 ^ 44 }
     requires list { IsList chunks.count list.now }
     ensures ready { IsReady (B.is_sound blocks.new) (B.state blocks.new).held page.new }
-    ensures rows { Told (B.state blocks.old).held (λ image. span.end < length image → AreListed image chunks.place chunks.count list.now → Finds (chunk_rows image span.end used (chunk_list image chunks.place chunks.count)) result) }
-    ensures used { IfOk result (λ s. Told (B.state blocks.old).held (λ image. span.end < length image → AreListed image chunks.place chunks.count list.now
-        → s.used ≡ used + total_length (map (data_extent image) (chunk_list image chunks.place chunks.count)))) }
-    ensures payload { IfOk result (λ s. Told (B.state blocks.old).held (λ image. span.end < length image → AreListed image chunks.place chunks.count list.now → s.payload ≡ payload_total image (chunk_list image chunks.place chunks.count))) }
-    ensures extents { OnOk result (Told (B.state blocks.old).held (λ image. span.end < length image → AreListed image chunks.place chunks.count list.now
-        → extents.new.items ≡ extents.old.items ++ map (data_extent image) (chunk_list image chunks.place chunks.count))) }
-    ensures added { OnOk result (AddsChunks span.end chunks.count extents.old.items extents.new.items) }
-    ensures bounds { IfOk result (λ s. (s.used ≡ used + 20 * chunks.count + s.payload) × (s.used ≤ span.end + 1)) }
+    ensures rows { Told (B.state blocks.old).held (λ image. span.end < length image
+        → AreListed image chunks.place chunks.count list.now
+        → Finds (chunk_rows image span.end used (chunk_list image chunks.place chunks.count))
+        result) }
+    ensures used { IfOk result (λ s. Told (B.state blocks.old).held (λ image. span.end
+        < length image → AreListed image chunks.place chunks.count list.now
+        → s.used ≡ used
+        + total_length (map (data_extent image) (chunk_list image chunks.place chunks.count)))) }
+    ensures payload { IfOk result (λ s. Told (B.state blocks.old).held (λ image. span.end
+        < length image → AreListed image chunks.place chunks.count list.now
+        → s.payload ≡ payload_total image (chunk_list image chunks.place chunks.count))) }
+    ensures extents { OnOk result (Told (B.state blocks.old).held (λ image. span.end < length image
+        → AreListed image chunks.place chunks.count list.now
+        → extents.new.items ≡ extents.old.items
+        ++ map (data_extent image) (chunk_list image chunks.place chunks.count))) }
+    ensures added { OnOk result (AddsChunks span.end chunks.count extents.old.items
+        extents.new.items) }
+    ensures bounds { IfOk result (λ s. (s.used ≡ used + 20 * chunks.count + s.payload)
+        × (s.used ≤ span.end + 1)) }
     ensures effect { ReadsFew (4 * chunks.count) (B.state blocks.old) (B.state blocks.new) }
-    ensures cause { IfErr result (MayLackMemory (B.state blocks.old).faults (B.state blocks.new).faults) }
+    ensures cause { IfErr result (MayLackMemory (B.state blocks.old).faults
+        (B.state blocks.new).faults) }
 {
     let mut sums = Sums { used, payload: 0 };
     for position in 0..chunks.count {
@@ -406,7 +444,8 @@ pub fn add_extent(
     place: u64,
     length: u64,
 ) -> Result<(), Halt>
-    ensures added { OnOk result (extents.new.items ≡ extents.old.items ++ record { place = place; length = length; kind = kind } ∷ []) }
+    ensures added { OnOk result (extents.new.items
+        ≡ extents.old.items ++ record { place = place; length = length; kind = kind } ∷ []) }
     ensures want { IfErr result IsWant }
 {
     let extent = Extent {

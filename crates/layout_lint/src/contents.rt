@@ -22,7 +22,8 @@ use cg_io::Blocks;
 
 /// The bytes of a node's data, at most 2^64 - 1.
 pub fn size_of_data(header: &NodeHeader) -> u64
-    ensures { result ≡ min (data_size header.now.kind (take header.now.rank (numbers_of header.now))) (2 ^ 64 - 1) }
+    ensures { result ≡ min (data_size header.now.kind
+        (take header.now.rank (numbers_of header.now))) (2 ^ 64 - 1) }
 {
     let shape = Shape {
         kind: header.kind,
@@ -41,7 +42,9 @@ fn is_link(header: &NodeHeader) -> bool
 
 // Whether there are chunks as the type wants them, and enough payload for the data.
 fn has_payload(header: &NodeHeader, size: u64, payload: u64) -> bool
-    ensures { result ≡ ((not (is_mt header.now.kind) || (header.now.chunks == 0)) && (not (is_lk header.now.kind) || nat_lt 0 header.now.chunks) && ((header.now.chunks == 0) || nat_le size payload)) }
+    ensures { result ≡ ((not (is_mt header.now.kind) || (header.now.chunks == 0))
+        && (not (is_lk header.now.kind) || nat_lt 0 header.now.chunks)
+        && ((header.now.chunks == 0) || nat_le size payload)) }
 {
     if header.kind == DataType::Mt {
         return header.chunks == 0;
@@ -65,10 +68,13 @@ fn read_part<B: Blocks>(
     requires within { place + count ≤ 2 ^ 44 }
     requires fits { start + count ≤ length into.old }
     ensures ready { IsReady (B.is_sound blocks.new) (B.state blocks.new).held page.new }
-    ensures told { OnOk result (Told (B.state blocks.old).held (λ image. place + count ≤ length image → take (start + count) into.new ≡ take start into.old ++ field image place count)) }
+    ensures told { OnOk result (Told (B.state blocks.old).held (λ image. place + count
+        ≤ length image → take (start + count) into.new
+        ≡ take start into.old ++ field image place count)) }
     ensures no_fault { IfErr result IsNoFault }
     ensures effect { ReadsFew count (B.state blocks.old) (B.state blocks.new) }
-    ensures cause { IfErr result (HasCount (B.state blocks.old).faults (B.state blocks.new).faults) }
+    ensures cause { IfErr result (HasCount (B.state blocks.old).faults
+        (B.state blocks.new).faults) }
 {
     read_at(blocks, page, place, &mut into[start..start + count])
 }
@@ -83,11 +89,15 @@ fn gather<B: Blocks>(
     requires ready { IsReady (B.is_sound blocks.old) (B.state blocks.old).held page.old }
     requires end { (k : ℕ) × (k < 2 ^ 44) × All (IsChunk k) chunks.now }
     ensures ready { IsReady (B.is_sound blocks.new) (B.state blocks.new).held page.new }
-    ensures told { OnOk result (Told (B.state blocks.old).held (λ image. (end : ℕ) (visits : List ChunkVisit) → end < length image → All (IsChunk end) chunks.now → chunks.now ≡ map (data_extent image) visits
-        → length into.old ≤ payload_total image visits → into.new ≡ take (length into.old) (payloads_in image visits))) }
+    ensures told { OnOk result (Told (B.state blocks.old).held
+        (λ image. (end : ℕ) (visits : List ChunkVisit) → end < length image
+        → All (IsChunk end) chunks.now → chunks.now ≡ map (data_extent image) visits
+        → length into.old ≤ payload_total image visits
+        → into.new ≡ take (length into.old) (payloads_in image visits))) }
     ensures no_fault { IfErr result IsNoFault }
     ensures effect { ReadsFew (length into.old) (B.state blocks.old) (B.state blocks.new) }
-    ensures cause { IfErr result (HasCount (B.state blocks.old).faults (B.state blocks.new).faults) }
+    ensures cause { IfErr result (HasCount (B.state blocks.old).faults
+        (B.state blocks.new).faults) }
 {
     let mut done = 0;
     for chunk in chunks {
@@ -114,11 +124,15 @@ fn reads_link_text<B: Blocks>(
     requires end { (k : ℕ) × (k < 2 ^ 44) × All (IsChunk k) chunks.now }
     requires fits { size ≤ length text.old }
     ensures ready { IsReady (B.is_sound blocks.new) (B.state blocks.new).held page.new }
-    ensures told { IfOk result (λ yes. Told (B.state blocks.old).held (λ image. (end : ℕ) (visits : List ChunkVisit) → end < length image → All (IsChunk end) chunks.now → chunks.now ≡ map (data_extent image) visits
-        → size ≤ payload_total image visits → yes ≡ is_link_text (take size (payloads_in image visits)))) }
+    ensures told { IfOk result (λ yes. Told (B.state blocks.old).held
+        (λ image. (end : ℕ) (visits : List ChunkVisit) → end < length image
+        → All (IsChunk end) chunks.now → chunks.now ≡ map (data_extent image) visits
+        → size ≤ payload_total image visits → yes
+        ≡ is_link_text (take size (payloads_in image visits)))) }
     ensures no_fault { IfErr result IsNoFault }
     ensures effect { ReadsFew size (B.state blocks.old) (B.state blocks.new) }
-    ensures cause { IfErr result (HasCount (B.state blocks.old).faults (B.state blocks.new).faults) }
+    ensures cause { IfErr result (HasCount (B.state blocks.old).faults
+        (B.state blocks.new).faults) }
 {
     match gather(blocks, page, chunks, &mut text[..size]) {
         Ok(()) => Ok(split_link(&text[..size]).is_some()),
@@ -137,11 +151,15 @@ fn is_link_text<B: Blocks>(
     requires end { (k : ℕ) × (k < 2 ^ 44) × All (IsChunk k) chunks.now }
     requires short { size ≤ 4096 }
     ensures ready { IsReady (B.is_sound blocks.new) (B.state blocks.new).held page.new }
-    ensures told { IfOk result (λ yes. Told (B.state blocks.old).held (λ image. (end : ℕ) (visits : List ChunkVisit) → end < length image → All (IsChunk end) chunks.now → chunks.now ≡ map (data_extent image) visits
-        → size ≤ payload_total image visits → yes ≡ is_link_text (take size (payloads_in image visits)))) }
+    ensures told { IfOk result (λ yes. Told (B.state blocks.old).held
+        (λ image. (end : ℕ) (visits : List ChunkVisit) → end < length image
+        → All (IsChunk end) chunks.now → chunks.now ≡ map (data_extent image) visits
+        → size ≤ payload_total image visits → yes
+        ≡ is_link_text (take size (payloads_in image visits)))) }
     ensures no_fault { IfErr result IsNoFault }
     ensures effect { ReadsFew size (B.state blocks.old) (B.state blocks.new) }
-    ensures cause { IfErr result (HasCount (B.state blocks.old).faults (B.state blocks.new).faults) }
+    ensures cause { IfErr result (HasCount (B.state blocks.old).faults
+        (B.state blocks.new).faults) }
 {
     let mut text = [0u8; LONGEST_LINK];
     reads_link_text(blocks, page, chunks, &mut text, size)
@@ -158,11 +176,17 @@ fn is_sound_link<B: Blocks>(
     requires ready { IsReady (B.is_sound blocks.old) (B.state blocks.old).held page.old }
     requires end { (k : ℕ) × (k < 2 ^ 44) × All (IsChunk k) chunks.now }
     ensures ready { IsReady (B.is_sound blocks.new) (B.state blocks.new).held page.new }
-    ensures told { IfOk result (λ yes. Told (B.state blocks.old).held (λ image. (end : ℕ) (visits : List ChunkVisit) → end < length image → All (IsChunk end) chunks.now → chunks.now ≡ map (data_extent image) visits
-        → (is_lk header.now.kind ≡ true → size ≤ payload_total image visits) → yes ≡ (not (is_lk header.now.kind) || (header.now.rank == 1) && nat_le size 4096 && is_link_text (take size (payloads_in image visits))))) }
+    ensures told { IfOk result (λ yes. Told (B.state blocks.old).held
+        (λ image. (end : ℕ) (visits : List ChunkVisit) → end < length image
+        → All (IsChunk end) chunks.now → chunks.now ≡ map (data_extent image) visits
+        → (is_lk header.now.kind ≡ true → size ≤ payload_total image visits)
+        → yes ≡ (not (is_lk header.now.kind) || (header.now.rank == 1) && nat_le size 4096
+        && is_link_text (take size (payloads_in image visits))))) }
     ensures no_fault { IfErr result IsNoFault }
-    ensures effect { ReadsFew (if is_lk header.now.kind then size else 0) (B.state blocks.old) (B.state blocks.new) }
-    ensures cause { IfErr result (HasCount (B.state blocks.old).faults (B.state blocks.new).faults) }
+    ensures effect { ReadsFew (if is_lk header.now.kind then size else 0) (B.state blocks.old)
+        (B.state blocks.new) }
+    ensures cause { IfErr result (HasCount (B.state blocks.old).faults
+        (B.state blocks.new).faults) }
 {
     if !is_link(header) {
         return Ok(true);
@@ -190,10 +214,14 @@ pub fn look_at_contents<B: Blocks>(
     requires count { length chunks.now ≡ header.now.chunks }
     requires payload { payload ≤ span.end + 1 }
     ensures ready { IsReady (B.is_sound blocks.new) (B.state blocks.new).held page.new }
-    ensures rows { Told (B.state blocks.old).held (λ image. span.end < length image → IsHeaderAt image span.wide place header.now → chunks.now ≡ map (data_extent image) (chunks_in image span.wide place)
-        → payload ≡ payload_total image (chunks_in image span.wide place) → Finds (data_rows image span.wide place) result) }
+    ensures rows { Told (B.state blocks.old).held (λ image. span.end < length image
+        → IsHeaderAt image span.wide place header.now
+        → chunks.now ≡ map (data_extent image) (chunks_in image span.wide place)
+        → payload ≡ payload_total image (chunks_in image span.wide place)
+        → Finds (data_rows image span.wide place) result) }
     ensures effect { ReadsFew payload (B.state blocks.old) (B.state blocks.new) }
-    ensures cause { IfErr result (HasCount (B.state blocks.old).faults (B.state blocks.new).faults) }
+    ensures cause { IfErr result (HasCount (B.state blocks.old).faults
+        (B.state blocks.new).faults) }
 {
     let size = size_of_data(header);
     if !has_payload(header, size, payload) {

@@ -62,11 +62,14 @@ pub fn look_at_table<B: Blocks>(
     requires end { span.end < 2 ^ 44 }
     requires place { table.place < 2 ^ 44 }
     ensures ready { IsReady (B.is_sound blocks.new) (B.state blocks.new).held page.new }
-    ensures rows { Told (B.state blocks.old).held (λ image. span.end < length image → Finds (table_rows image span.end used table.place table.entries) result) }
-    ensures fits { OnOk result ((266 ≤ table.place) × (table.place + table_length table.entries ≤ span.end + 1)) }
+    ensures rows { Told (B.state blocks.old).held (λ image. span.end < length image
+        → Finds (table_rows image span.end used table.place table.entries) result) }
+    ensures fits { OnOk result ((266 ≤ table.place)
+        × (table.place + table_length table.entries ≤ span.end + 1)) }
     ensures room { OnOk result (used + table_length table.entries ≤ span.end + 1) }
     ensures effect { ReadsFew 4 (B.state blocks.old) (B.state blocks.new) }
-    ensures cause { IfErr result (HasCount (B.state blocks.old).faults (B.state blocks.new).faults) }
+    ensures cause { IfErr result (HasCount (B.state blocks.old).faults
+        (B.state blocks.new).faults) }
 {
     let length = table.length();
     let tail = table.tail();
@@ -119,9 +122,11 @@ pub fn look_at_entries<B: Blocks>(
     requires ready { IsReady (B.is_sound blocks.old) (B.state blocks.old).held page.old }
     requires within { table.place + 16 + 44 * children ≤ 2 ^ 44 }
     ensures ready { IsReady (B.is_sound blocks.new) (B.state blocks.new).held page.new }
-    ensures rows { Told (B.state blocks.old).held (λ image. table.place + 16 + 44 * children ≤ length image → Finds (entry_rows image table.place children) result) }
+    ensures rows { Told (B.state blocks.old).held (λ image. table.place + 16 + 44 * children
+        ≤ length image → Finds (entry_rows image table.place children) result) }
     ensures effect { ReadsFew (2 * children) (B.state blocks.old) (B.state blocks.new) }
-    ensures cause { IfErr result (MayLackMemory (B.state blocks.old).faults (B.state blocks.new).faults) }
+    ensures cause { IfErr result (MayLackMemory (B.state blocks.old).faults
+        (B.state blocks.new).faults) }
 {
     let mut names: BTreeSet<[u8; 32]> = BTreeSet::new(alloc);
     for position in 0..children {

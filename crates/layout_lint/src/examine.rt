@@ -35,10 +35,14 @@ fn look_behind_head<B: Blocks>(
     ensures ready { IsReady (B.is_sound blocks.new) (B.state blocks.new).held page.new }
     ensures sound { IfOk result (λ verdict. is_sound verdict ≡ true) }
     ensures shape { IfOk result HasShape }
-    ensures laid_out { IfOk result (λ verdict. Told (B.state blocks.old).held (λ image. IsHead image head.now → IsVerdict image verdict)) }
-    ensures broken { IfErr result (λ h. Told (B.state blocks.old).held (λ image. IsHead image head.now → IsFault image h)) }
-    ensures effect { ReadsFew (8 * (head.now.span.end + 1) + 13) (B.state blocks.old) (B.state blocks.new) }
-    ensures cause { IfErr result (MayLackMemory (B.state blocks.old).faults (B.state blocks.new).faults) }
+    ensures laid_out { IfOk result (λ verdict.
+        Told (B.state blocks.old).held (λ image. IsHead image head.now → IsVerdict image verdict)) }
+    ensures broken { IfErr result (λ h. Told (B.state blocks.old).held
+        (λ image. IsHead image head.now → IsFault image h)) }
+    ensures effect { ReadsFew (8 * (head.now.span.end + 1) + 13) (B.state blocks.old)
+        (B.state blocks.new) }
+    ensures cause { IfErr result (MayLackMemory (B.state blocks.old).faults
+        (B.state blocks.new).faults) }
 {
     let found = match look_at_nodes(alloc, blocks, page, head) {
         Ok(found) => found,
@@ -73,11 +77,14 @@ fn look_at_all<B: Blocks>(alloc: Global, blocks: &mut B) -> Result<Verdict, Halt
     ensures layer { B.is_sound blocks.new }
     ensures sound { IfOk result (λ verdict. is_sound verdict ≡ true) }
     ensures shape { IfOk result HasShape }
-    ensures laid_out { IfOk result (λ verdict. Told (B.state blocks.old).held (λ image. IsVerdict image verdict)) }
+    ensures laid_out { IfOk result (λ verdict.
+        Told (B.state blocks.old).held (λ image. IsVerdict image verdict)) }
     ensures broken { IfErr result (λ h. Told (B.state blocks.old).held (λ image. IsFault image h)) }
     ensures effect { ReadsFew (8 * 2 ^ 44 + 16) (B.state blocks.old) (B.state blocks.new) }
-    ensures few { Told (B.state blocks.old).held (λ image. ReadsFew (8 * length image + 16) (B.state blocks.old) (B.state blocks.new)) }
-    ensures cause { IfErr result (MayLackMemory (B.state blocks.old).faults (B.state blocks.new).faults) }
+    ensures few { Told (B.state blocks.old).held
+        (λ image. ReadsFew (8 * length image + 16) (B.state blocks.old) (B.state blocks.new)) }
+    ensures cause { IfErr result (MayLackMemory (B.state blocks.old).faults
+        (B.state blocks.new).faults) }
 {
     let mut page = Page::new();
     let head = match look_at_head(blocks, &mut page) {
@@ -94,12 +101,15 @@ fn look_at_all<B: Blocks>(alloc: Global, blocks: &mut B) -> Result<Verdict, Halt
 pub fn lint<B: Blocks>(alloc: Global, blocks: &mut B) -> Result<Verdict, AdfError>
     requires { B.is_sound blocks.old }
     ensures layer { B.is_sound blocks.new }
-    ensures verdict { IfOk result (λ verdict. Told (B.state blocks.old).held (λ image. IsVerdict image verdict)) }
+    ensures verdict { IfOk result (λ verdict. Told (B.state blocks.old).held
+        (λ image. IsVerdict image verdict)) }
     ensures shape { IfOk result HasShape }
     ensures rule { IfOk result NamesRule }
-    ensures exactly { IfOk result (λ verdict. Told (B.state blocks.old).held (λ image. IsTrue (is_sound verdict) ↔ IsSound image)) }
+    ensures exactly { IfOk result (λ verdict. Told (B.state blocks.old).held
+        (λ image. IsTrue (is_sound verdict) ↔ IsSound image)) }
     ensures effect { ReadsFew (8 * 2 ^ 44 + 16) (B.state blocks.old) (B.state blocks.new) }
-    ensures few { Told (B.state blocks.old).held (λ image. ReadsFew (8 * length image + 16) (B.state blocks.old) (B.state blocks.new)) }
+    ensures few { Told (B.state blocks.old).held
+        (λ image. ReadsFew (8 * length image + 16) (B.state blocks.old) (B.state blocks.new)) }
     ensures cause { IfErr result (MayFail (B.state blocks.old).faults (B.state blocks.new).faults) }
 {
     match look_at_all(alloc, blocks) {

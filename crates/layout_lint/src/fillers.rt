@@ -14,7 +14,8 @@ use cg_io::Blocks;
 // The first byte of a piece that is no blank byte.
 fn other_byte(piece: &[u8]) -> Option<usize>
     ensures { MatchOption result ((k : ℕ) → k < length piece.now → get_or piece.now k 0 ≡ 122)
-        (λ k. (k < length piece.now) × (get_or piece.now k 0 ≢ 122) × ((j : ℕ) → j < k → get_or piece.now j 0 ≡ 122)) }
+        (λ k. (k < length piece.now) × (get_or piece.now k 0 ≢ 122)
+        × ((j : ℕ) → j < k → get_or piece.now j 0 ≡ 122)) }
 {
     for k in 0..piece.len() {
         if piece[k] != b'z' {
@@ -36,10 +37,13 @@ fn look_at_piece<B: Blocks>(
     requires within { at % 4096 + count ≤ 4096 }
     requires end { at + count ≤ 2 ^ 44 }
     ensures ready { IsReady (B.is_sound blocks.new) (B.state blocks.new).held page.new }
-    ensures blank { OnOk result (Told (B.state blocks.old).held (λ image. at + count ≤ length image → AreBlank image at (at + count))) }
-    ensures hole { IfErr result (λ h. Told (B.state blocks.old).held (λ image. at + count ≤ length image → IsHole image at (at + count) h)) }
+    ensures blank { OnOk result (Told (B.state blocks.old).held (λ image. at + count ≤ length image
+        → AreBlank image at (at + count))) }
+    ensures hole { IfErr result (λ h. Told (B.state blocks.old).held (λ image. at + count
+        ≤ length image → IsHole image at (at + count) h)) }
     ensures effect { ReadsFew 1 (B.state blocks.old) (B.state blocks.new) }
-    ensures cause { IfErr result (HasCount (B.state blocks.old).faults (B.state blocks.new).faults) }
+    ensures cause { IfErr result (HasCount (B.state blocks.old).faults
+        (B.state blocks.new).faults) }
 {
     let start = (at % 4096) as usize;
     match turn_to(blocks, page, (at / 4096) as u32) {
@@ -63,10 +67,14 @@ pub fn look_at_filler<B: Blocks>(
     requires order { from ≤ to }
     requires end { to ≤ 2 ^ 44 }
     ensures ready { IsReady (B.is_sound blocks.new) (B.state blocks.new).held page.new }
-    ensures blank { OnOk result (Told (B.state blocks.old).held (λ image. to ≤ length image → AreBlank image from to)) }
-    ensures hole { IfErr result (λ h. Told (B.state blocks.old).held (λ image. to ≤ length image → IsHole image from to h)) }
-    ensures effect { ReadsFew (blocks_of from (to - from)) (B.state blocks.old) (B.state blocks.new) }
-    ensures cause { IfErr result (HasCount (B.state blocks.old).faults (B.state blocks.new).faults) }
+    ensures blank { OnOk result (Told (B.state blocks.old).held (λ image. to ≤ length image
+        → AreBlank image from to)) }
+    ensures hole { IfErr result (λ h. Told (B.state blocks.old).held (λ image. to ≤ length image
+        → IsHole image from to h)) }
+    ensures effect { ReadsFew (blocks_of from (to - from)) (B.state blocks.old)
+        (B.state blocks.new) }
+    ensures cause { IfErr result (HasCount (B.state blocks.old).faults
+        (B.state blocks.new).faults) }
 {
     let mut at = from;
     while at < to {

@@ -40,11 +40,14 @@ fn fill<B: Blocks>(
     requires order { from ≤ to }
     requires end { to ≤ 2 ^ 44 }
     ensures ready { IsReady (B.is_sound blocks.new) (B.state blocks.new).held page.new }
-    ensures blank { OnOk result (Told (B.state blocks.old).held (λ image. to ≤ length image → AreBlank image from to)) }
+    ensures blank { OnOk result (Told (B.state blocks.old).held (λ image. to ≤ length image
+        → AreBlank image from to)) }
     ensures gaps { OnOk result (gaps.new.items ≡ filled_up gaps.old.items from to) }
-    ensures hole { IfErr result (λ h. Told (B.state blocks.old).held (λ image. to ≤ length image → IsHole image from to h)) }
+    ensures hole { IfErr result (λ h. Told (B.state blocks.old).held (λ image. to ≤ length image
+        → IsHole image from to h)) }
     ensures effect { ReadsFew (to - from) (B.state blocks.old) (B.state blocks.new) }
-    ensures cause { IfErr result (MayLackMemory (B.state blocks.old).faults (B.state blocks.new).faults) }
+    ensures cause { IfErr result (MayLackMemory (B.state blocks.old).faults
+        (B.state blocks.new).faults) }
 {
     if from == to {
         return Ok(());
@@ -75,11 +78,14 @@ fn pass<B: Blocks>(
     requires end { extent.place + extent.length ≤ 2 ^ 44 }
     ensures ready { IsReady (B.is_sound blocks.new) (B.state blocks.new).held page.new }
     ensures ends { IfOk result (λ n. (n ≡ extent.place + extent.length) × (reach ≤ extent.place)) }
-    ensures blank { OnOk result (Told (B.state blocks.old).held (λ image. extent.place ≤ length image → AreBlank image reach extent.place)) }
+    ensures blank { OnOk result (Told (B.state blocks.old).held (λ image. extent.place
+        ≤ length image → AreBlank image reach extent.place)) }
     ensures gaps { OnOk result (gaps.new.items ≡ passed_gaps gaps.old.items reach extent) }
-    ensures stops { IfErr result (λ h. Told (B.state blocks.old).held (λ image. extent.place ≤ length image → StopsAt image reach extent h)) }
+    ensures stops { IfErr result (λ h. Told (B.state blocks.old).held (λ image. extent.place
+        ≤ length image → StopsAt image reach extent h)) }
     ensures effect { ReadsFew (extent.place - reach) (B.state blocks.old) (B.state blocks.new) }
-    ensures cause { IfErr result (MayLackMemory (B.state blocks.old).faults (B.state blocks.new).faults) }
+    ensures cause { IfErr result (MayLackMemory (B.state blocks.old).faults
+        (B.state blocks.new).faults) }
 {
     if extent.place < reach {
         return halt_at(30, extent.place);
@@ -109,11 +115,14 @@ pub fn look_at_tiling<B: Blocks>(
     requires end { span.end < 2 ^ 44 }
     requires solid { All (IsSolid span.end) extents.items }
     ensures ready { IsReady (B.is_sound blocks.new) (B.state blocks.new).held page.new }
-    ensures tiled { IfOk result (λ gaps. Told (B.state blocks.old).held (λ image. span.end < length image → AreTiled image extents.items span.end gaps.items)) }
+    ensures tiled { IfOk result (λ gaps. Told (B.state blocks.old).held (λ image. span.end
+        < length image → AreTiled image extents.items span.end gaps.items)) }
     ensures set { IfOk result (λ gaps. AreSet extents.items span.end gaps.items) }
-    ensures bad { IfErr result (λ h. Told (B.state blocks.old).held (λ image. span.end < length image → IsMisplaced image extents.items span.end h)) }
+    ensures bad { IfErr result (λ h. Told (B.state blocks.old).held (λ image. span.end
+        < length image → IsMisplaced image extents.items span.end h)) }
     ensures effect { ReadsFew (span.end + 1) (B.state blocks.old) (B.state blocks.new) }
-    ensures cause { IfErr result (MayLackMemory (B.state blocks.old).faults (B.state blocks.new).faults) }
+    ensures cause { IfErr result (MayLackMemory (B.state blocks.old).faults
+        (B.state blocks.new).faults) }
 {
     sort_by_place(&mut extents);
     let mut gaps = Vec::new(alloc);

@@ -49,11 +49,13 @@ pub fn place_of(p: DiskPtr) -> u64
 fn length_of<B: Blocks>(blocks: &mut B, page: &Page) -> Result<u64, Halt>
     requires { IsReady (B.is_sound blocks.old) (B.state blocks.old).held page.now }
     ensures ready { IsReady (B.is_sound blocks.new) (B.state blocks.new).held page.now }
-    ensures rows { Told (B.state blocks.old).held (λ image. Finds (row_of_length image ∷ []) result) }
+    ensures rows { Told (B.state blocks.old).held
+        (λ image. Finds (row_of_length image ∷ []) result) }
     ensures told { IfOk result (λ n. Told (B.state blocks.old).held (λ image. n ≡ length image)) }
     ensures bounds { IfOk result (λ n. (266 ≤ n) × (n ≤ 2 ^ 44)) }
     ensures effect { ReadsFew 1 (B.state blocks.old) (B.state blocks.new) }
-    ensures cause { IfErr result (HasCount (B.state blocks.old).faults (B.state blocks.new).faults) }
+    ensures cause { IfErr result (HasCount (B.state blocks.old).faults
+        (B.state blocks.new).faults) }
 {
     match blocks.length() {
         Ok(length) if length < HEAD_LENGTH => halt_at(1, 0),
@@ -66,11 +68,14 @@ fn length_of<B: Blocks>(blocks: &mut B, page: &Page) -> Result<u64, Halt>
 fn header_at<B: Blocks>(blocks: &mut B, page: &mut Page) -> Result<FileHeader, Halt>
     requires { IsReady (B.is_sound blocks.old) (B.state blocks.old).held page.old }
     ensures ready { IsReady (B.is_sound blocks.new) (B.state blocks.new).held page.new }
-    ensures rows { Told (B.state blocks.old).held (λ image. 266 ≤ length image → Finds (header_rows (field image 0 186)) result) }
-    ensures says { IfOk result (λ h. Told (B.state blocks.old).held (λ image. 266 ≤ length image → header_of h ≡ header_record (field image 0 186))) }
+    ensures rows { Told (B.state blocks.old).held (λ image. 266 ≤ length image
+        → Finds (header_rows (field image 0 186)) result) }
+    ensures says { IfOk result (λ h. Told (B.state blocks.old).held (λ image. 266 ≤ length image
+        → header_of h ≡ header_record (field image 0 186))) }
     ensures offsets { IfOk result HasHeaderOffsets }
     ensures effect { ReadsFew 1 (B.state blocks.old) (B.state blocks.new) }
-    ensures cause { IfErr result (HasCount (B.state blocks.old).faults (B.state blocks.new).faults) }
+    ensures cause { IfErr result (HasCount (B.state blocks.old).faults
+        (B.state blocks.new).faults) }
 {
     let bytes = match field_at(blocks, page, 0) {
         Ok(bytes) => bytes,
@@ -86,11 +91,14 @@ fn header_at<B: Blocks>(blocks: &mut B, page: &mut Page) -> Result<FileHeader, H
 fn free_table_at<B: Blocks>(blocks: &mut B, page: &mut Page) -> Result<FreeTable, Halt>
     requires { IsReady (B.is_sound blocks.old) (B.state blocks.old).held page.old }
     ensures ready { IsReady (B.is_sound blocks.new) (B.state blocks.new).held page.new }
-    ensures rows { Told (B.state blocks.old).held (λ image. 266 ≤ length image → Finds (free_table_rows 186 (field image 186 80)) result) }
-    ensures says { IfOk result (λ t. Told (B.state blocks.old).held (λ image. 266 ≤ length image → pointers_of t ≡ free_table_record (field image 186 80))) }
+    ensures rows { Told (B.state blocks.old).held (λ image. 266 ≤ length image
+        → Finds (free_table_rows 186 (field image 186 80)) result) }
+    ensures says { IfOk result (λ t. Told (B.state blocks.old).held (λ image. 266 ≤ length image
+        → pointers_of t ≡ free_table_record (field image 186 80))) }
     ensures offsets { IfOk result (λ t. HasFreeOffsets t) }
     ensures effect { ReadsFew 1 (B.state blocks.old) (B.state blocks.new) }
-    ensures cause { IfErr result (HasCount (B.state blocks.old).faults (B.state blocks.new).faults) }
+    ensures cause { IfErr result (HasCount (B.state blocks.old).faults
+        (B.state blocks.new).faults) }
 {
     let bytes = match field_at(blocks, page, FREE_TABLE) {
         Ok(bytes) => bytes,
@@ -104,7 +112,10 @@ fn free_table_at<B: Blocks>(blocks: &mut B, page: &mut Page) -> Result<FreeTable
 
 // The version of a file and its last byte.
 fn span_of(header: &FileHeader) -> Span
-    ensures { result ≡ record { wide = holds header.now.what 25 (codes "W"); end = place_value (Some (view header.now.end)) } }
+    ensures { result ≡ record {
+      wide = holds header.now.what 25 (codes "W");
+      end = place_value (Some (view header.now.end));
+    } }
 {
     Span {
         wide: &header.what[25..26] == b"W".as_slice(),
@@ -114,7 +125,8 @@ fn span_of(header: &FileHeader) -> Span
 
 // Whether the last byte lies within the device, and behind the header of the root.
 fn is_end(span: Span, length: u64) -> bool
-    ensures value { result ≡ (nat_lt span.end length && nat_le (265 + node_length span.wide) span.end) }
+    ensures value { result ≡ (nat_lt span.end length
+        && nat_le (265 + node_length span.wide) span.end) }
     ensures bounds { result ≡ true → (510 < span.end) × (span.end < length) }
 {
     if span.end >= length {
@@ -128,11 +140,13 @@ pub fn look_at_head<B: Blocks>(blocks: &mut B, page: &mut Page) -> Result<Head, 
     requires { IsReady (B.is_sound blocks.old) (B.state blocks.old).held page.old }
     ensures ready { IsReady (B.is_sound blocks.new) (B.state blocks.new).held page.new }
     ensures rows { Told (B.state blocks.old).held (λ image. Finds (head_rows image) result) }
-    ensures says { IfOk result (λ head. Told (B.state blocks.old).held (λ image. IsHead image head)) }
+    ensures says { IfOk result (λ head. Told (B.state blocks.old).held
+        (λ image. IsHead image head)) }
     ensures bounds { IfOk result (λ head. (510 < head.span.end) × (head.span.end < 2 ^ 44)) }
     ensures offsets { IfOk result (λ head. HasFreeOffsets head.lists) }
     ensures effect { ReadsFew 3 (B.state blocks.old) (B.state blocks.new) }
-    ensures cause { IfErr result (HasCount (B.state blocks.old).faults (B.state blocks.new).faults) }
+    ensures cause { IfErr result (HasCount (B.state blocks.old).faults
+        (B.state blocks.new).faults) }
 {
     let length = match length_of(blocks, page) {
         Ok(length) => length,

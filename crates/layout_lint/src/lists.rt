@@ -107,13 +107,18 @@ fn free_chunk_at<B: Blocks>(
     requires end { span.end < 2 ^ 44 }
     requires place { at < 2 ^ 44 }
     ensures ready { IsReady (B.is_sound blocks.new) (B.state blocks.new).held page.new }
-    ensures rows { Told (B.state blocks.old).held (λ image. span.end < length image → Finds (free_byte_rows image span.end at) result) }
-    ensures length { IfOk result (λ chunk. Told (B.state blocks.old).held (λ image. span.end < length image → chunk.length ≡ chunk_length image at)) }
-    ensures next { IfOk result (λ chunk. Told (B.state blocks.old).held (λ image. span.end < length image → chunk.next ≡ named_place (field image (at + 16) 12))) }
-    ensures bounds { IfOk result (λ chunk. (32 ≤ chunk.length) × (at + chunk.length ≤ span.end + 1)) }
+    ensures rows { Told (B.state blocks.old).held (λ image. span.end < length image
+        → Finds (free_byte_rows image span.end at) result) }
+    ensures length { IfOk result (λ chunk. Told (B.state blocks.old).held (λ image. span.end
+        < length image → chunk.length ≡ chunk_length image at)) }
+    ensures next { IfOk result (λ chunk. Told (B.state blocks.old).held (λ image. span.end
+        < length image → chunk.next ≡ named_place (field image (at + 16) 12))) }
+    ensures bounds { IfOk result (λ chunk. (32 ≤ chunk.length)
+        × (at + chunk.length ≤ span.end + 1)) }
     ensures bound { IfOk result (λ chunk. IfSome chunk.next (λ place. place < 2 ^ 44)) }
     ensures effect { ReadsFew 4 (B.state blocks.old) (B.state blocks.new) }
-    ensures cause { IfErr result (HasCount (B.state blocks.old).faults (B.state blocks.new).faults) }
+    ensures cause { IfErr result (HasCount (B.state blocks.old).faults
+        (B.state blocks.new).faults) }
 {
     let mark = Mark {
         part: Part::Free,
@@ -145,8 +150,14 @@ fn free_chunk_at<B: Blocks>(
 // Puts a free chunk behind those that were met.
 fn keep(frees: &mut Frees, at: u64, length: u64) -> Result<(), Halt>
     requires { frees.old.used + length ≤ 2 ^ 44 }
-    ensures places { OnOk result ((q : ℕ) → contains nat_cmp frees.new.places q ≡ cond (at == q) true (contains nat_cmp frees.old.places q)) }
-    ensures extents { OnOk result (frees.new.extents.items ≡ frees.old.extents.items ++ record { place = at; length = length; kind = ExtentKind.FreeChunk } ∷ []) }
+    ensures places { OnOk result ((q : ℕ) → contains nat_cmp frees.new.places q
+        ≡ cond (at == q) true (contains nat_cmp frees.old.places q)) }
+    ensures extents { OnOk result (frees.new.extents.items
+        ≡ frees.old.extents.items ++ record {
+          place = at;
+          length = length;
+          kind = ExtentKind.FreeChunk;
+        } ∷ []) }
     ensures used { OnOk result (frees.new.used ≡ frees.old.used + length) }
     ensures want { IfErr result IsWant }
 {
@@ -176,16 +187,23 @@ fn look_at_free<B: Blocks>(
     requires end { span.end < 2 ^ 44 }
     requires place { at < 2 ^ 44 }
     ensures ready { IsReady (B.is_sound blocks.new) (B.state blocks.new).held page.new }
-    ensures rows { Told (B.state blocks.old).held (λ image. (number : ℕ) → span.end < length image → IsListAt image number list → Finds (free_rows_at image span.end (contains nat_cmp frees.old.places at) frees.old.used number at) result) }
-    ensures kept { OnOk result (Told (B.state blocks.old).held (λ image. span.end < length image → KeepsFree image at frees.old frees.new)) }
-    ensures next { IfOk result (λ next. Told (B.state blocks.old).held (λ image. span.end < length image → next ≡ named_place (field image (at + 16) 12))) }
+    ensures rows { Told (B.state blocks.old).held (λ image. (number : ℕ) → span.end < length image
+        → IsListAt image number list
+        → Finds (free_rows_at image span.end (contains nat_cmp frees.old.places at) frees.old.used
+        number at) result) }
+    ensures kept { OnOk result (Told (B.state blocks.old).held (λ image. span.end < length image
+        → KeepsFree image at frees.old frees.new)) }
+    ensures next { IfOk result (λ next. Told (B.state blocks.old).held (λ image. span.end
+        < length image → next ≡ named_place (field image (at + 16) 12))) }
     ensures bound { IfOk result (λ next. IfSome next (λ place. place < 2 ^ 44)) }
     ensures adds { OnOk result (Adds frees.old.extents.items frees.new.extents.items) }
     ensures more { OnOk result (frees.old.used + 32 ≤ frees.new.used) }
     ensures room { OnOk result (frees.new.used ≤ span.end + 1) }
-    ensures solid { OnOk result (All (IsSolid span.end) frees.old.extents.items → All (IsSolid span.end) frees.new.extents.items) }
+    ensures solid { OnOk result (All (IsSolid span.end) frees.old.extents.items
+        → All (IsSolid span.end) frees.new.extents.items) }
     ensures effect { ReadsFew 4 (B.state blocks.old) (B.state blocks.new) }
-    ensures cause { IfErr result (MayLackMemory (B.state blocks.old).faults (B.state blocks.new).faults) }
+    ensures cause { IfErr result (MayLackMemory (B.state blocks.old).faults
+        (B.state blocks.new).faults) }
 {
     if frees.places.contains(&at) {
         return halt_at(29, at);
@@ -219,16 +237,27 @@ fn look_at_list<B: Blocks>(
     requires used { frees.old.used ≤ span.end + 1 }
     requires first { HasOffset list.first }
     ensures ready { IsReady (B.is_sound blocks.new) (B.state blocks.new).held page.new }
-    ensures goes_on { OnOk result (Told (B.state blocks.old).held (λ image. (nodes : List Visit) (base : List Extent) (number : ℕ) (later : List FreeVisit) → IsSpan image span → IsListAt image number list
-        → HasCome image nodes base number (first_of list) later frees.old → HasCome image nodes base number None later frees.new)) }
-    ensures stops { IfErr result (λ h. Told (B.state blocks.old).held (λ image. (nodes : List Visit) (base : List Extent) (number : ℕ) (later : List FreeVisit) → IsSpan image span → IsListAt image number list
-        → HasCome image nodes base number (first_of list) later frees.old → EndsLists image nodes h)) }
+    ensures goes_on { OnOk result (Told (B.state blocks.old).held
+        (λ image. (nodes : List Visit) (base : List Extent) (number : ℕ) (later : List FreeVisit)
+        → IsSpan image span → IsListAt image number list
+        → HasCome image nodes base number (first_of list) later frees.old
+        → HasCome image nodes base number None later frees.new)) }
+    ensures stops { IfErr result (λ h. Told (B.state blocks.old).held
+        (λ image. (nodes : List Visit) (base : List Extent) (number : ℕ) (later : List FreeVisit)
+        → IsSpan image span → IsListAt image number list
+        → HasCome image nodes base number (first_of list) later frees.old
+        → EndsLists image nodes h)) }
     ensures adds { OnOk result (Adds frees.old.extents.items frees.new.extents.items) }
-    ensures room { OnOk result ((frees.old.used ≤ frees.new.used) × (frees.new.used ≤ span.end + 1)) }
-    ensures solid { OnOk result (All (IsSolid span.end) frees.old.extents.items → All (IsSolid span.end) frees.new.extents.items) }
-    ensures few { OnOk result (ReadsFew (frees.new.used - frees.old.used) (B.state blocks.old) (B.state blocks.new)) }
-    ensures effect { ReadsFew (span.end + 1 - frees.old.used + 4) (B.state blocks.old) (B.state blocks.new) }
-    ensures cause { IfErr result (MayLackMemory (B.state blocks.old).faults (B.state blocks.new).faults) }
+    ensures room { OnOk result ((frees.old.used ≤ frees.new.used)
+        × (frees.new.used ≤ span.end + 1)) }
+    ensures solid { OnOk result (All (IsSolid span.end) frees.old.extents.items
+        → All (IsSolid span.end) frees.new.extents.items) }
+    ensures few { OnOk result (ReadsFew (frees.new.used - frees.old.used) (B.state blocks.old)
+        (B.state blocks.new)) }
+    ensures effect { ReadsFew (span.end + 1 - frees.old.used + 4) (B.state blocks.old)
+        (B.state blocks.new) }
+    ensures cause { IfErr result (MayLackMemory (B.state blocks.old).faults
+        (B.state blocks.new).faults) }
 {
     let mut next = place(list.first);
     while let Some(at) = next {
@@ -253,14 +282,21 @@ fn sweep<B: Blocks>(
     requires used { frees.old.used ≤ span.end + 1 }
     requires offsets { HasFreeOffsets table.now }
     ensures ready { IsReady (B.is_sound blocks.new) (B.state blocks.new).held page.new }
-    ensures goes_on { OnOk result (Told (B.state blocks.old).held (λ image. (nodes : List Visit) (base : List Extent) → IsSpan image span → HasLists image table.now
+    ensures goes_on { OnOk result (Told (B.state blocks.old).held
+        (λ image. (nodes : List Visit) (base : List Extent) → IsSpan image span
+        → HasLists image table.now
         → HasBegun image nodes base frees.old → HasCome image nodes base 2 None [] frees.new)) }
-    ensures stops { IfErr result (λ h. Told (B.state blocks.old).held (λ image. (nodes : List Visit) (base : List Extent) → IsSpan image span → HasLists image table.now
+    ensures stops { IfErr result (λ h. Told (B.state blocks.old).held
+        (λ image. (nodes : List Visit) (base : List Extent) → IsSpan image span
+        → HasLists image table.now
         → HasBegun image nodes base frees.old → EndsLists image nodes h)) }
     ensures adds { OnOk result (Adds frees.old.extents.items frees.new.extents.items) }
-    ensures solid { OnOk result (All (IsSolid span.end) frees.old.extents.items → All (IsSolid span.end) frees.new.extents.items) }
-    ensures effect { ReadsFew (span.end + 1 - frees.old.used + 4) (B.state blocks.old) (B.state blocks.new) }
-    ensures cause { IfErr result (MayLackMemory (B.state blocks.old).faults (B.state blocks.new).faults) }
+    ensures solid { OnOk result (All (IsSolid span.end) frees.old.extents.items
+        → All (IsSolid span.end) frees.new.extents.items) }
+    ensures effect { ReadsFew (span.end + 1 - frees.old.used + 4) (B.state blocks.old)
+        (B.state blocks.new) }
+    ensures cause { IfErr result (MayLackMemory (B.state blocks.old).faults
+        (B.state blocks.new).faults) }
 {
     let small = FreeList {
         first: table.small_first,
@@ -304,15 +340,24 @@ pub fn look_at_lists<B: Blocks>(
     requires used { used ≤ span.end + 1 }
     requires offsets { HasFreeOffsets table.now }
     ensures ready { IsReady (B.is_sound blocks.new) (B.state blocks.new).held page.new }
-    ensures found { IfOk result (λ all. Told (B.state blocks.old).held (λ image. (nodes : List Visit) → IsSpan image span → pointers_of table.now ≡ free_table_record (field image 186 80)
-        → first_broken (free_table_rows 186 (field image 186 80)) ≡ None → used ≡ 266 + total_length (found_extents image (is_wide image) nodes)
-        → (frees : List FreeVisit) × FreeWalk image nodes (Ok frees) × (all.items ≡ extents.items ++ map (free_extent image) frees))) }
-    ensures stops { IfErr result (λ h. Told (B.state blocks.old).held (λ image. (nodes : List Visit) → IsSpan image span → pointers_of table.now ≡ free_table_record (field image 186 80)
-        → first_broken (free_table_rows 186 (field image 186 80)) ≡ None → used ≡ 266 + total_length (found_extents image (is_wide image) nodes) → EndsLists image nodes h)) }
+    ensures found { IfOk result (λ all. Told (B.state blocks.old).held
+        (λ image. (nodes : List Visit) → IsSpan image span
+        → pointers_of table.now ≡ free_table_record (field image 186 80)
+        → first_broken (free_table_rows 186 (field image 186 80)) ≡ None
+        → used ≡ 266 + total_length (found_extents image (is_wide image) nodes)
+        → (frees : List FreeVisit) × FreeWalk image nodes (Ok frees)
+        × (all.items ≡ extents.items ++ map (free_extent image) frees))) }
+    ensures stops { IfErr result (λ h. Told (B.state blocks.old).held (λ image. (nodes : List Visit)
+        → IsSpan image span → pointers_of table.now ≡ free_table_record (field image 186 80)
+        → first_broken (free_table_rows 186 (field image 186 80)) ≡ None
+        → used ≡ 266 + total_length (found_extents image (is_wide image) nodes)
+        → EndsLists image nodes h)) }
     ensures adds { IfOk result (λ all. Adds extents.items all.items) }
-    ensures solid { IfOk result (λ all. All (IsSolid span.end) extents.items → All (IsSolid span.end) all.items) }
+    ensures solid { IfOk result (λ all. All (IsSolid span.end) extents.items
+        → All (IsSolid span.end) all.items) }
     ensures effect { ReadsFew (span.end + 1 - used + 4) (B.state blocks.old) (B.state blocks.new) }
-    ensures cause { IfErr result (MayLackMemory (B.state blocks.old).faults (B.state blocks.new).faults) }
+    ensures cause { IfErr result (MayLackMemory (B.state blocks.old).faults
+        (B.state blocks.new).faults) }
 {
     let mut frees = Frees {
         places: BTreeSet::new(alloc),

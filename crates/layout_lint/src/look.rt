@@ -41,7 +41,9 @@ pub struct Next {
 
 // Whether a node may have so many children: rule 22.
 fn has_few_children(header: &NodeHeader, depth: u8) -> bool
-    ensures { result ≡ (nat_le header.now.children header.now.entries && nat_le header.now.children (2 ^ 20) && (nat_lt depth 255 || (header.now.children == 0)) && (not (is_lk header.now.kind) || (header.now.children == 0))) }
+    ensures { result ≡ (nat_le header.now.children header.now.entries
+        && nat_le header.now.children (2 ^ 20) && (nat_lt depth 255 || (header.now.children == 0))
+        && (not (is_lk header.now.kind) || (header.now.children == 0))) }
 {
     if header.children > header.entries {
         return false;
@@ -75,15 +77,24 @@ fn look_at_children<B: Blocks>(
     requires offsets { HasOffsets header.now }
     requires fewer { header.now.children ≤ header.now.entries }
     ensures ready { IsReady (B.is_sound blocks.new) (B.state blocks.new).held page.new }
-    ensures rows { Told (B.state blocks.old).held (λ image. span.end < length image → Finds (children_rows image span.end used (table_of header.now) header.now.entries header.now.children) result) }
-    ensures used { IfOk result (λ n. n ≡ used + total_length (table_extents (table_of header.now) header.now.entries)) }
-    ensures extents { OnOk result (extents.new.items ≡ extents.old.items ++ table_extents (table_of header.now) header.now.entries) }
-    ensures fits { OnOk result (0 < header.now.entries → (266 ≤ table_of header.now) × (table_of header.now + table_length header.now.entries ≤ span.end + 1)) }
+    ensures rows { Told (B.state blocks.old).held (λ image. span.end < length image
+        → Finds (children_rows image span.end used
+        (table_of header.now) header.now.entries header.now.children) result) }
+    ensures used { IfOk result (λ n. n ≡ used + total_length
+        (table_extents (table_of header.now) header.now.entries)) }
+    ensures extents { OnOk result (extents.new.items
+        ≡ extents.old.items ++ table_extents (table_of header.now) header.now.entries) }
+    ensures fits { OnOk result (0 < header.now.entries
+        → (266 ≤ table_of header.now)
+        × (table_of header.now + table_length header.now.entries ≤ span.end + 1)) }
     ensures room { IfOk result (λ n. n ≤ span.end + 1) }
-    ensures effect { ReadsFew (2 * header.now.children + 4) (B.state blocks.old) (B.state blocks.new) }
+    ensures effect { ReadsFew (2 * header.now.children + 4) (B.state blocks.old)
+        (B.state blocks.new) }
     ensures short { ReadsFew (span.end + 5) (B.state blocks.old) (B.state blocks.new) }
-    ensures few { OnOk result (header.now.entries ≡ 0 → (B.state blocks.new) ≡ (B.state blocks.old)) }
-    ensures cause { IfErr result (MayLackMemory (B.state blocks.old).faults (B.state blocks.new).faults) }
+    ensures few { OnOk result (header.now.entries ≡ 0
+        → (B.state blocks.new) ≡ (B.state blocks.old)) }
+    ensures cause { IfErr result (MayLackMemory (B.state blocks.old).faults
+        (B.state blocks.new).faults) }
 {
     let table = table_of(header);
     if table.entries == 0 {
@@ -133,16 +144,23 @@ fn look_at_data<B: Blocks>(
     requires place { place ≤ span.end }
     requires offsets { HasOffsets header.now }
     ensures ready { IsReady (B.is_sound blocks.new) (B.state blocks.new).held page.new }
-    ensures rows { Told (B.state blocks.old).held (λ image. span.end < length image → IsHeaderAt image span.wide place header.now → Finds (data_rows_at image span.wide span.end used place) result) }
-    ensures used { IfOk result (λ n. Told (B.state blocks.old).held (λ image. span.end < length image → IsHeaderAt image span.wide place header.now → n ≡ used + total_length (data_extents_at image span.wide place))) }
-    ensures extents { OnOk result (Told (B.state blocks.old).held (λ image. span.end < length image → IsHeaderAt image span.wide place header.now
+    ensures rows { Told (B.state blocks.old).held (λ image. span.end < length image
+        → IsHeaderAt image span.wide place header.now
+        → Finds (data_rows_at image span.wide span.end used place) result) }
+    ensures used { IfOk result (λ n. Told (B.state blocks.old).held (λ image. span.end
+        < length image → IsHeaderAt image span.wide place header.now
+        → n ≡ used + total_length (data_extents_at image span.wide place))) }
+    ensures extents { OnOk result (Told (B.state blocks.old).held (λ image. span.end < length image
+        → IsHeaderAt image span.wide place header.now
         → extents.new.items ≡ extents.old.items ++ data_extents_at image span.wide place)) }
     ensures adds { OnOk result (Adds extents.old.items extents.new.items) }
-    ensures solid { OnOk result (All (IsSolid span.end) extents.old.items → All (IsSolid span.end) extents.new.items) }
+    ensures solid { OnOk result (All (IsSolid span.end) extents.old.items
+        → All (IsSolid span.end) extents.new.items) }
     ensures bounds { IfOk result (λ n. (used ≤ n) × (n ≤ span.end + 1)) }
     ensures few { IfOk result (λ n. ReadsFew (n - used) (B.state blocks.old) (B.state blocks.new)) }
     ensures effect { ReadsFew (2 * (span.end + 1) + 16) (B.state blocks.old) (B.state blocks.new) }
-    ensures cause { IfErr result (MayLackMemory (B.state blocks.old).faults (B.state blocks.new).faults) }
+    ensures cause { IfErr result (MayLackMemory (B.state blocks.old).faults
+        (B.state blocks.new).faults) }
 {
     let chunks = Chunks {
         count: header.chunks,
@@ -181,17 +199,26 @@ pub fn look<B: Blocks>(
     requires end { span.end < 2 ^ 44 }
     requires solid { All (IsSolid span.end) extents.old.items }
     ensures ready { IsReady (B.is_sound blocks.new) (B.state blocks.new).held page.new }
-    ensures rows { Told (B.state blocks.old).held (λ image. span.end < length image → Finds (node_rows_at image span.wide span.end known used met.now.place met.now.entry met.now.depth) result) }
-    ensures leads { IfOk result (λ next. Told (B.state blocks.old).held (λ image. span.end < length image → LeadsTo image span.wide used met.now.place next)) }
-    ensures extents { OnOk result (Told (B.state blocks.old).held (λ image. span.end < length image → extents.new.items ≡ extents.old.items ++ extents_at image span.wide met.now.place)) }
-    ensures adds { OnOk result (AddsNode span.wide met.now.place extents.old.items extents.new.items) }
-    ensures inside { OnOk result ((266 ≤ met.now.place) × (met.now.place + node_length span.wide ≤ span.end + 1)) }
+    ensures rows { Told (B.state blocks.old).held (λ image. span.end < length image
+        → Finds (node_rows_at image span.wide span.end known used met.now.place met.now.entry
+        met.now.depth) result) }
+    ensures leads { IfOk result (λ next. Told (B.state blocks.old).held (λ image. span.end
+        < length image → LeadsTo image span.wide used met.now.place next)) }
+    ensures extents { OnOk result (Told (B.state blocks.old).held (λ image. span.end < length image
+        → extents.new.items ≡ extents.old.items ++ extents_at image span.wide met.now.place)) }
+    ensures adds { OnOk result (AddsNode span.wide met.now.place extents.old.items
+        extents.new.items) }
+    ensures inside { OnOk result ((266 ≤ met.now.place)
+        × (met.now.place + node_length span.wide ≤ span.end + 1)) }
     ensures next { IfOk result (IsNext span.end used met.now.depth) }
-    ensures named { IfOk result (λ next. Told (B.state blocks.old).held (λ image. span.end < length image → next.name ≡ field image (met.now.place + 4) 32)) }
+    ensures named { IfOk result (λ next. Told (B.state blocks.old).held (λ image. span.end
+        < length image → next.name ≡ field image (met.now.place + 4) 32)) }
     ensures solid { OnOk result (All (IsSolid span.end) extents.new.items) }
     ensures effect { ReadsFew (3 * (span.end + 1) + 32) (B.state blocks.old) (B.state blocks.new) }
-    ensures few { IfOk result (λ next. ReadsFew (next.used - used - 2 * next.children) (B.state blocks.old) (B.state blocks.new)) }
-    ensures cause { IfErr result (MayLackMemory (B.state blocks.old).faults (B.state blocks.new).faults) }
+    ensures few { IfOk result (λ next. ReadsFew (next.used - used - 2 * next.children)
+        (B.state blocks.old) (B.state blocks.new)) }
+    ensures cause { IfErr result (MayLackMemory (B.state blocks.old).faults
+        (B.state blocks.new).faults) }
 {
     let header = match look_at_header(blocks, page, span, known, used, met) {
         Ok(header) => header,

@@ -41,11 +41,14 @@ pub fn look_at_start<B: Blocks, const N: usize>(
     requires least { N ≤ mark.least }
     requires rule { IsRule mark.rule }
     ensures ready { IsReady (B.is_sound blocks.new) (B.state blocks.new).held page.new }
-    ensures rows { Told (B.state blocks.old).held (λ image. span.end < length image → Finds (start_row image span.end mark ∷ []) result) }
-    ensures says { IfOk result (λ head. Told (B.state blocks.old).held (λ image. span.end < length image → head ≡ field image mark.place N)) }
+    ensures rows { Told (B.state blocks.old).held (λ image. span.end < length image
+        → Finds (start_row image span.end mark ∷ []) result) }
+    ensures says { IfOk result (λ head. Told (B.state blocks.old).held (λ image. span.end
+        < length image → head ≡ field image mark.place N)) }
     ensures fits { OnOk result ((266 ≤ mark.place) × (mark.place + mark.least ≤ span.end + 1)) }
     ensures effect { ReadsFew 2 (B.state blocks.old) (B.state blocks.new) }
-    ensures cause { IfErr result (HasCount (B.state blocks.old).faults (B.state blocks.new).faults) }
+    ensures cause { IfErr result (HasCount (B.state blocks.old).faults
+        (B.state blocks.new).faults) }
 {
     if !span.fits(mark.place, mark.least) {
         return halt_at(mark.rule, mark.place);
@@ -71,9 +74,11 @@ pub fn look_at_tail<B: Blocks>(
     requires within { tail + 4 ≤ 2 ^ 44 }
     requires rule { IsRule mark.rule }
     ensures ready { IsReady (B.is_sound blocks.new) (B.state blocks.new).held page.new }
-    ensures rows { Told (B.state blocks.old).held (λ image. tail + 4 ≤ length image → Finds (tail_row image mark tail ∷ []) result) }
+    ensures rows { Told (B.state blocks.old).held (λ image. tail + 4 ≤ length image
+        → Finds (tail_row image mark tail ∷ []) result) }
     ensures effect { ReadsFew 2 (B.state blocks.old) (B.state blocks.new) }
-    ensures cause { IfErr result (HasCount (B.state blocks.old).faults (B.state blocks.new).faults) }
+    ensures cause { IfErr result (HasCount (B.state blocks.old).faults
+        (B.state blocks.new).faults) }
 {
     let tag = match field_at(blocks, page, tail) {
         Ok(tag) => tag,
@@ -99,7 +104,9 @@ pub fn pointer_in(bytes: &[u8], offset: usize) -> Option<DiskPtr>
 /// The place that the pointer at an offset of some bytes names, if it names one.
 pub fn place_in(bytes: &[u8], offset: usize) -> Option<u64>
     requires { offset + 12 ≤ length bytes.now }
-    ensures value { MatchOption result (is_place (field bytes.now offset 12) ≡ false) (λ place. (is_place (field bytes.now offset 12) ≡ true) × (place_of (field bytes.now offset 12) ≡ place)) }
+    ensures value { MatchOption result (is_place (field bytes.now offset 12) ≡ false)
+        (λ place. (is_place (field bytes.now offset 12) ≡ true)
+        × (place_of (field bytes.now offset 12) ≡ place)) }
     ensures bound { IfSome result (λ place. place < 2 ^ 44) }
 {
     match pointer_in(bytes, offset) {

@@ -51,13 +51,19 @@ fn header_at<B: Blocks, const N: usize>(
     requires long { N ≡ node_length wide }
     requires within { met.now.place + N ≤ 2 ^ 44 }
     ensures ready { IsReady (B.is_sound blocks.new) (B.state blocks.new).held page.new }
-    ensures rows { Told (B.state blocks.old).held (λ image. met.now.place + node_length wide ≤ length image
-        → Finds (node_rows wide met.now.place (is_same_name met.now.entry (field image (met.now.place + 4) 32)) (field image met.now.place (node_length wide))) result) }
-    ensures says { IfOk result (λ n. Told (B.state blocks.old).held (λ image. met.now.place + node_length wide ≤ length image → record_of n ≡ node_record wide (field image met.now.place (node_length wide)))) }
+    ensures rows { Told (B.state blocks.old).held (λ image. met.now.place + node_length wide
+        ≤ length image
+        → Finds (node_rows wide met.now.place (is_same_name met.now.entry
+        (field image (met.now.place + 4) 32)) (field image met.now.place (node_length wide)))
+        result) }
+    ensures says { IfOk result (λ n. Told (B.state blocks.old).held
+        (λ image. met.now.place + node_length wide ≤ length image
+        → record_of n ≡ node_record wide (field image met.now.place (node_length wide)))) }
     ensures wide { IfOk result (λ n. n.wide ≡ wide) }
     ensures offsets { IfOk result HasOffsets }
     ensures effect { ReadsFew 2 (B.state blocks.old) (B.state blocks.new) }
-    ensures cause { IfErr result (HasCount (B.state blocks.old).faults (B.state blocks.new).faults) }
+    ensures cause { IfErr result (HasCount (B.state blocks.old).faults
+        (B.state blocks.new).faults) }
 {
     let bytes = match field_at::<B, N>(blocks, page, met.place) {
         Ok(bytes) => bytes,
@@ -82,15 +88,20 @@ pub fn look_at_header<B: Blocks>(
     requires ready { IsReady (B.is_sound blocks.old) (B.state blocks.old).held page.old }
     requires end { span.end < 2 ^ 44 }
     ensures ready { IsReady (B.is_sound blocks.new) (B.state blocks.new).held page.new }
-    ensures rows { Told (B.state blocks.old).held (λ image. span.end < length image → Finds (header_rows_at image span.wide span.end known used met.now) result) }
-    ensures says { IfOk result (λ n. Told (B.state blocks.old).held (λ image. span.end < length image → record_of n ≡ node_record span.wide (field image met.now.place (node_length span.wide)))) }
+    ensures rows { Told (B.state blocks.old).held (λ image. span.end < length image
+        → Finds (header_rows_at image span.wide span.end known used met.now) result) }
+    ensures says { IfOk result (λ n. Told (B.state blocks.old).held (λ image. span.end
+        < length image → record_of n ≡ node_record span.wide
+        (field image met.now.place (node_length span.wide)))) }
     ensures wide { IfOk result (λ n. n.wide ≡ span.wide) }
     ensures offsets { IfOk result HasOffsets }
-    ensures fits { OnOk result ((266 ≤ met.now.place) × (met.now.place + node_length span.wide ≤ span.end + 1)) }
+    ensures fits { OnOk result ((266 ≤ met.now.place)
+        × (met.now.place + node_length span.wide ≤ span.end + 1)) }
     ensures room { OnOk result (used + node_length span.wide ≤ span.end + 1) }
     ensures new { OnOk result (known ≡ false) }
     ensures effect { ReadsFew 2 (B.state blocks.old) (B.state blocks.new) }
-    ensures cause { IfErr result (HasCount (B.state blocks.old).faults (B.state blocks.new).faults) }
+    ensures cause { IfErr result (HasCount (B.state blocks.old).faults
+        (B.state blocks.new).faults) }
 {
     let length = span.node_length() as u64;
     if !span.fits(met.place, length) {

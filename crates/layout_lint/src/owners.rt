@@ -95,13 +95,20 @@ fn add_nodes<B: Blocks>(
     requires ready { IsReady (B.is_sound blocks.old) (B.state blocks.old).held page.old }
     requires end { span.end < 2 ^ 44 }
     ensures ready { IsReady (B.is_sound blocks.new) (B.state blocks.new).held page.new }
-    ensures added { OnOk result (Told (B.state blocks.old).held (λ image. span.end < length image → parts.new.owned.items ≡ parts.old.owned.items ++ owned_from image span.wide 0 places.now)) }
-    ensures there { OnOk result (All (IsThere (length places.now)) parts.old.owned.items → All (IsThere (length places.now)) parts.new.owned.items) }
-    ensures named { OnOk result (Told (B.state blocks.old).held (λ image. span.end < length image → parts.new.names.items ≡ parts.old.names.items ++ map (name_of image) places.now)) }
-    ensures count { OnOk result (length parts.new.names.items ≡ length parts.old.names.items + length places.now) }
-    ensures sound { IfErr result (λ h. Told (B.state blocks.old).held (λ image. span.end < length image → KeepRules image span.wide span.end 266 places.now → IsNoFault h)) }
+    ensures added { OnOk result (Told (B.state blocks.old).held (λ image. span.end < length image
+        → parts.new.owned.items ≡ parts.old.owned.items
+        ++ owned_from image span.wide 0 places.now)) }
+    ensures there { OnOk result (All (IsThere (length places.now)) parts.old.owned.items
+        → All (IsThere (length places.now)) parts.new.owned.items) }
+    ensures named { OnOk result (Told (B.state blocks.old).held (λ image. span.end < length image
+        → parts.new.names.items ≡ parts.old.names.items ++ map (name_of image) places.now)) }
+    ensures count { OnOk result (length parts.new.names.items
+        ≡ length parts.old.names.items + length places.now) }
+    ensures sound { IfErr result (λ h. Told (B.state blocks.old).held (λ image. span.end
+        < length image → KeepRules image span.wide span.end 266 places.now → IsNoFault h)) }
     ensures effect { ReadsFew (4 * (span.end + 1) + 32) (B.state blocks.old) (B.state blocks.new) }
-    ensures cause { IfErr result (MayLackMemory (B.state blocks.old).faults (B.state blocks.new).faults) }
+    ensures cause { IfErr result (MayLackMemory (B.state blocks.old).faults
+        (B.state blocks.new).faults) }
 {
     let mut used = HEAD_LENGTH;
     for k in 0..places.len() {
@@ -154,13 +161,21 @@ fn collect<B: Blocks>(
     requires { B.is_sound blocks.old }
     ensures layer { B.is_sound blocks.new }
     ensures there { IfOk result (λ parts. All (IsThere (length places.now)) parts.owned.items) }
-    ensures all { IfOk result (λ parts. Told (B.state blocks.old).held (λ image. (tree : Tree) (p : Placement) → IsLaidAt image tree p places.now gaps.now → OwnsPlaces tree p places.now parts.owned.items)) }
-    ensures named { IfOk result (λ parts. Told (B.state blocks.old).held (λ image. (tree : Tree) (p : Placement) → IsLaidAt image tree p places.now gaps.now → AreNamesAt tree p places.now parts.names.items)) }
+    ensures all { IfOk result (λ parts. Told (B.state blocks.old).held
+        (λ image. (tree : Tree) (p : Placement) → IsLaidAt image tree p places.now gaps.now
+        → OwnsPlaces tree p places.now parts.owned.items)) }
+    ensures named { IfOk result (λ parts. Told (B.state blocks.old).held
+        (λ image. (tree : Tree) (p : Placement) → IsLaidAt image tree p places.now gaps.now
+        → AreNamesAt tree p places.now parts.names.items)) }
     ensures count { IfOk result (λ parts. length parts.names.items ≡ length places.now) }
-    ensures sound { IfErr result (λ h. Told (B.state blocks.old).held (λ image. (tree : Tree) (p : Placement) → IsLaidAt image tree p places.now gaps.now → IsNoFault h)) }
+    ensures sound { IfErr result (λ h. Told (B.state blocks.old).held
+        (λ image. (tree : Tree) (p : Placement) → IsLaidAt image tree p places.now gaps.now
+        → IsNoFault h)) }
     ensures effect { ReadsFew (4 * 2 ^ 44 + 35) (B.state blocks.old) (B.state blocks.new) }
-    ensures few { Told (B.state blocks.old).held (λ image. ReadsFew (4 * length image + 35) (B.state blocks.old) (B.state blocks.new)) }
-    ensures cause { IfErr result (MayLackMemory (B.state blocks.old).faults (B.state blocks.new).faults) }
+    ensures few { Told (B.state blocks.old).held
+        (λ image. ReadsFew (4 * length image + 35) (B.state blocks.old) (B.state blocks.new)) }
+    ensures cause { IfErr result (MayLackMemory (B.state blocks.old).faults
+        (B.state blocks.new).faults) }
 {
     let mut page = Page::new();
     let head = match look_at_head(blocks, &mut page) {
@@ -215,13 +230,21 @@ pub fn survey_places<B: Blocks>(
     requires { B.is_sound blocks.old }
     ensures layer { B.is_sound blocks.new }
     ensures there { IfOk result (λ found. All (IsThere (length places.now)) found.extents) }
-    ensures all { IfOk result (λ found. Told (B.state blocks.old).held (λ image. (tree : Tree) (p : Placement) → IsLaidAt image tree p places.now gaps.now → OwnsPlaces tree p places.now found.extents)) }
-    ensures named { IfOk result (λ found. Told (B.state blocks.old).held (λ image. (tree : Tree) (p : Placement) → IsLaidAt image tree p places.now gaps.now → AreNamesAt tree p places.now found.names)) }
+    ensures all { IfOk result (λ found. Told (B.state blocks.old).held
+        (λ image. (tree : Tree) (p : Placement) → IsLaidAt image tree p places.now gaps.now
+        → OwnsPlaces tree p places.now found.extents)) }
+    ensures named { IfOk result (λ found. Told (B.state blocks.old).held
+        (λ image. (tree : Tree) (p : Placement) → IsLaidAt image tree p places.now gaps.now
+        → AreNamesAt tree p places.now found.names)) }
     ensures count { IfOk result (λ found. length found.names ≡ length places.now) }
-    ensures refused { IfErr result (λ e. Told (B.state blocks.old).held (λ image. (tree : Tree) (p : Placement) → IsLaidAt image tree p places.now gaps.now → IsNoLayout e)) }
+    ensures refused { IfErr result (λ e. Told (B.state blocks.old).held
+        (λ image. (tree : Tree) (p : Placement) → IsLaidAt image tree p places.now gaps.now
+        → IsNoLayout e)) }
     ensures effect { ReadsFew (4 * 2 ^ 44 + 35) (B.state blocks.old) (B.state blocks.new) }
-    ensures few { Told (B.state blocks.old).held (λ image. ReadsFew (4 * length image + 35) (B.state blocks.old) (B.state blocks.new)) }
-    ensures cause { IfErr result (MayRefuse (B.state blocks.old).faults (B.state blocks.new).faults) }
+    ensures few { Told (B.state blocks.old).held
+        (λ image. ReadsFew (4 * length image + 35) (B.state blocks.old) (B.state blocks.new)) }
+    ensures cause { IfErr result (MayRefuse (B.state blocks.old).faults
+        (B.state blocks.new).faults) }
 {
     match collect(alloc, blocks, places, gaps) {
         Ok(parts) => {
@@ -260,15 +283,23 @@ pub fn survey<B: Blocks>(
     requires { B.is_sound blocks.old }
     ensures layer { B.is_sound blocks.new }
     ensures there { IfOk result (λ found. All (IsThere (length nodes.now)) found.extents) }
-    ensures all { IfOk result (λ found. Told (B.state blocks.old).held (λ image. (end : ℕ) (format : Format) (wide : Bool) (laid : IsLaidOutAs image (map node_place nodes.now) gaps.now end format wide)
+    ensures all { IfOk result (λ found. Told (B.state blocks.old).held
+        (λ image. (end : ℕ) (format : Format) (wide : Bool)
+        (laid : IsLaidOutAs image (map node_place nodes.now) gaps.now end format wide)
         → OwnsAll laid.tree laid.placement found.extents)) }
-    ensures named { IfOk result (λ found. Told (B.state blocks.old).held (λ image. (end : ℕ) (format : Format) (wide : Bool) (laid : IsLaidOutAs image (map node_place nodes.now) gaps.now end format wide)
+    ensures named { IfOk result (λ found. Told (B.state blocks.old).held
+        (λ image. (end : ℕ) (format : Format) (wide : Bool)
+        (laid : IsLaidOutAs image (map node_place nodes.now) gaps.now end format wide)
         → AreNames laid.tree found.names)) }
     ensures count { IfOk result (λ found. length found.names ≡ length nodes.now) }
-    ensures refused { IfErr result (λ e. Told (B.state blocks.old).held (λ image. (end : ℕ) (format : Format) (wide : Bool) → IsLaidOutAs image (map node_place nodes.now) gaps.now end format wide → IsNoLayout e)) }
+    ensures refused { IfErr result (λ e. Told (B.state blocks.old).held
+        (λ image. (end : ℕ) (format : Format) (wide : Bool)
+        → IsLaidOutAs image (map node_place nodes.now) gaps.now end format wide → IsNoLayout e)) }
     ensures effect { ReadsFew (4 * 2 ^ 44 + 35) (B.state blocks.old) (B.state blocks.new) }
-    ensures few { Told (B.state blocks.old).held (λ image. ReadsFew (4 * length image + 35) (B.state blocks.old) (B.state blocks.new)) }
-    ensures cause { IfErr result (MayRefuse (B.state blocks.old).faults (B.state blocks.new).faults) }
+    ensures few { Told (B.state blocks.old).held
+        (λ image. ReadsFew (4 * length image + 35) (B.state blocks.old) (B.state blocks.new)) }
+    ensures cause { IfErr result (MayRefuse (B.state blocks.old).faults
+        (B.state blocks.new).faults) }
 {
     match places_of(alloc, nodes.items()) {
         Ok(places) => survey_places(alloc, blocks, &places, gaps.items()),
@@ -287,12 +318,18 @@ pub fn owned_extents<B: Blocks>(
     requires { B.is_sound blocks.old }
     ensures layer { B.is_sound blocks.new }
     ensures there { IfOk result (λ owned. All (IsThere (length nodes.now)) owned) }
-    ensures all { IfOk result (λ owned. Told (B.state blocks.old).held (λ image. (end : ℕ) (format : Format) (wide : Bool) (laid : IsLaidOutAs image (map node_place nodes.now) gaps.now end format wide)
+    ensures all { IfOk result (λ owned. Told (B.state blocks.old).held
+        (λ image. (end : ℕ) (format : Format) (wide : Bool)
+        (laid : IsLaidOutAs image (map node_place nodes.now) gaps.now end format wide)
         → OwnsAll laid.tree laid.placement owned)) }
-    ensures refused { IfErr result (λ e. Told (B.state blocks.old).held (λ image. (end : ℕ) (format : Format) (wide : Bool) → IsLaidOutAs image (map node_place nodes.now) gaps.now end format wide → IsNoLayout e)) }
+    ensures refused { IfErr result (λ e. Told (B.state blocks.old).held
+        (λ image. (end : ℕ) (format : Format) (wide : Bool)
+        → IsLaidOutAs image (map node_place nodes.now) gaps.now end format wide → IsNoLayout e)) }
     ensures effect { ReadsFew (4 * 2 ^ 44 + 35) (B.state blocks.old) (B.state blocks.new) }
-    ensures few { Told (B.state blocks.old).held (λ image. ReadsFew (4 * length image + 35) (B.state blocks.old) (B.state blocks.new)) }
-    ensures cause { IfErr result (MayRefuse (B.state blocks.old).faults (B.state blocks.new).faults) }
+    ensures few { Told (B.state blocks.old).held
+        (λ image. ReadsFew (4 * length image + 35) (B.state blocks.old) (B.state blocks.new)) }
+    ensures cause { IfErr result (MayRefuse (B.state blocks.old).faults
+        (B.state blocks.new).faults) }
 {
     match survey(alloc, blocks, nodes, gaps) {
         Ok(survey) => Ok(survey.extents),
@@ -321,12 +358,18 @@ pub fn extents<B: Blocks>(
 ) -> Result<Extents, AdfError>
     requires { B.is_sound blocks.old }
     ensures layer { B.is_sound blocks.new }
-    ensures all { IfOk result (λ extents. Told (B.state blocks.old).held (λ image. (end : ℕ) (format : Format) (wide : Bool) (laid : IsLaidOutAs image (map node_place nodes.now) gaps.now end format wide)
+    ensures all { IfOk result (λ extents. Told (B.state blocks.old).held
+        (λ image. (end : ℕ) (format : Format) (wide : Bool)
+        (laid : IsLaidOutAs image (map node_place nodes.now) gaps.now end format wide)
         → ListsExtents laid.tree.wide laid.placement extents)) }
-    ensures refused { IfErr result (λ e. Told (B.state blocks.old).held (λ image. (end : ℕ) (format : Format) (wide : Bool) → IsLaidOutAs image (map node_place nodes.now) gaps.now end format wide → IsNoLayout e)) }
+    ensures refused { IfErr result (λ e. Told (B.state blocks.old).held
+        (λ image. (end : ℕ) (format : Format) (wide : Bool)
+        → IsLaidOutAs image (map node_place nodes.now) gaps.now end format wide → IsNoLayout e)) }
     ensures effect { ReadsFew (4 * 2 ^ 44 + 35) (B.state blocks.old) (B.state blocks.new) }
-    ensures few { Told (B.state blocks.old).held (λ image. ReadsFew (4 * length image + 35) (B.state blocks.old) (B.state blocks.new)) }
-    ensures cause { IfErr result (MayRefuse (B.state blocks.old).faults (B.state blocks.new).faults) }
+    ensures few { Told (B.state blocks.old).held
+        (λ image. ReadsFew (4 * length image + 35) (B.state blocks.old) (B.state blocks.new)) }
+    ensures cause { IfErr result (MayRefuse (B.state blocks.old).faults
+        (B.state blocks.new).faults) }
 {
     let owned = match owned_extents(alloc, blocks, nodes, gaps) {
         Ok(owned) => owned,

@@ -36,7 +36,8 @@ pub fn turn_to<B: Blocks>(blocks: &mut B, page: &mut Page, n: u32) -> Result<(),
     ensures told { OnOk result (Gives (B.state blocks.old).held n page.new.bytes) }
     ensures long { length page.new.bytes ≡ 4096 }
     ensures effect { ReadsFew 1 (B.state blocks.old) (B.state blocks.new) }
-    ensures cause { IfErr result (HasCount (B.state blocks.old).faults (B.state blocks.new).faults) }
+    ensures cause { IfErr result (HasCount (B.state blocks.old).faults
+        (B.state blocks.new).faults) }
     ensures no_fault { IfErr result IsNoFault }
 {
     if let Some(number) = page.number
@@ -75,8 +76,10 @@ pub fn read_at<B: Blocks>(
     requires within { place + length into.old ≤ 2 ^ 44 }
     ensures ready { IsReady (B.is_sound blocks.new) (B.state blocks.new).held page.new }
     ensures told { OnOk result (GivesAt (B.state blocks.old).held place into.new) }
-    ensures effect { ReadsFew (blocks_of place (length into.old)) (B.state blocks.old) (B.state blocks.new) }
-    ensures cause { IfErr result (HasCount (B.state blocks.old).faults (B.state blocks.new).faults) }
+    ensures effect { ReadsFew (blocks_of place (length into.old)) (B.state blocks.old)
+        (B.state blocks.new) }
+    ensures cause { IfErr result (HasCount (B.state blocks.old).faults
+        (B.state blocks.new).faults) }
     ensures no_fault { IfErr result IsNoFault }
 {
     let mut done = 0;
@@ -103,9 +106,11 @@ pub fn field_at<B: Blocks, const N: usize>(
     requires ready { IsReady (B.is_sound blocks.old) (B.state blocks.old).held page.old }
     requires within { place + N ≤ 2 ^ 44 }
     ensures ready { IsReady (B.is_sound blocks.new) (B.state blocks.new).held page.new }
-    ensures told { IfOk result (λ bytes. Told (B.state blocks.old).held (λ image. place + N ≤ length image → bytes ≡ field image place N)) }
+    ensures told { IfOk result (λ bytes. Told (B.state blocks.old).held (λ image. place + N
+        ≤ length image → bytes ≡ field image place N)) }
     ensures effect { ReadsFew (blocks_of place N) (B.state blocks.old) (B.state blocks.new) }
-    ensures cause { IfErr result (HasCount (B.state blocks.old).faults (B.state blocks.new).faults) }
+    ensures cause { IfErr result (HasCount (B.state blocks.old).faults
+        (B.state blocks.new).faults) }
     ensures no_fault { IfErr result IsNoFault }
 {
     let mut bytes = [0u8; N];

@@ -21,7 +21,8 @@ use std::alloc::Global;
 fn numbers_up(alloc: Global, nodes: &[NodePlace], number: u64) -> Result<Vec<u64>, AdfError>
     requires linked { AreLinked (map node_place nodes.now) }
     requires number { number < length nodes.now }
-    ensures up { IfOk result (λ up. (tree : Tree) (p : Placement) → IsTree tree → IsNumbered tree → ListsNodes tree p (map node_place nodes.now) → IsWayUp tree number up.items) }
+    ensures up { IfOk result (λ up. (tree : Tree) (p : Placement) → IsTree tree → IsNumbered tree
+        → ListsNodes tree p (map node_place nodes.now) → IsWayUp tree number up.items) }
     ensures there { IfOk result (λ up. All (λ (k : ℕ). k < length nodes.now) up.items) }
     ensures want { IfErr result (λ e. e ≡ AdfError.Memory) }
 {
@@ -39,7 +40,8 @@ fn numbers_up(alloc: Global, nodes: &[NodePlace], number: u64) -> Result<Vec<u64
 
 // Puts a slash and a name as it is printed behind a text.
 fn add_name(alloc: Global, text: &mut Vec<u8>, name: &[u8]) -> Result<(), AdfError>
-    ensures added { OnOk result (text.new.items ≡ text.old.items ++ 47 ∷ spelled (trimmed name.now)) }
+    ensures added { OnOk result (text.new.items
+        ≡ text.old.items ++ 47 ∷ spelled (trimmed name.now)) }
     ensures want { IfErr result (λ e. e ≡ AdfError.Memory) }
 {
     let spelling = match spell(alloc, trimmed(name)) {
@@ -59,7 +61,8 @@ fn add_name(alloc: Global, text: &mut Vec<u8>, name: &[u8]) -> Result<(), AdfErr
 // The names of these nodes, the last first, each behind a slash.
 fn way_down(alloc: Global, names: &[[u8; 32]], up: &[u64]) -> Result<Vec<u8>, AdfError>
     requires there { All (λ (k : ℕ). k < length names.now) up.now }
-    ensures way { IfOk result (λ text. (tree : Tree) (number : ℕ) → AreNames tree names.now → IsWayUp tree number up.now → IsWay tree number text.items) }
+    ensures way { IfOk result (λ text. (tree : Tree) (number : ℕ) → AreNames tree names.now
+        → IsWayUp tree number up.now → IsWay tree number text.items) }
     ensures want { IfErr result (λ e. e ≡ AdfError.Memory) }
 {
     let mut text = Vec::new(alloc);
@@ -99,7 +102,9 @@ pub fn path_of(
     requires linked { AreLinked (map node_place nodes.now) }
     requires number { number < length nodes.now }
     requires named { length names.now ≡ length nodes.now }
-    ensures path { IfOk result (λ text. (tree : Tree) (p : Placement) → IsTree tree → IsNumbered tree → ListsNodes tree p (map node_place nodes.now) → AreNames tree names.now → IsPath tree number text) }
+    ensures path { IfOk result (λ text. (tree : Tree) (p : Placement) → IsTree tree
+        → IsNumbered tree → ListsNodes tree p (map node_place nodes.now) → AreNames tree names.now
+        → IsPath tree number text) }
     ensures refused { IfErr result (λ e. e ≡ AdfError.Memory) }
 {
     let up = match numbers_up(alloc, nodes.items(), number) {

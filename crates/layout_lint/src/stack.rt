@@ -52,7 +52,13 @@ pub fn take_next(families: &mut Vec<Family>) -> Result<Option<Family>, Halt>
 // The child that an entry names.
 fn met_in(bytes: &[u8; 44], family: Family) -> Met
     requires { family.depth < 255 }
-    ensures { waiting_of result ≡ record { place = place_of (field bytes.now 32 12); entry = Some (field bytes.now 0 32); parent = family.number; position = family.next; depth = family.depth + 1 } }
+    ensures { waiting_of result ≡ record {
+      place = place_of (field bytes.now 32 12);
+      entry = Some (field bytes.now 0 32);
+      parent = family.number;
+      position = family.next;
+      depth = family.depth + 1;
+    } }
 {
     let mut name = [0u8; 32];
     name.copy_from_slice(&bytes[..32]);
@@ -71,12 +77,15 @@ pub fn child_of<B: Blocks>(blocks: &mut B, page: &mut Page, family: Family) -> R
     requires shallow { family.depth < 255 }
     requires within { family.table.place + 16 + 44 * family.next + 44 ≤ 2 ^ 44 }
     ensures ready { IsReady (B.is_sound blocks.new) (B.state blocks.new).held page.new }
-    ensures says { IfOk result (λ met. Told (B.state blocks.old).held (λ image. family.table.place + 16 + 44 * family.next + 44 ≤ length image
-        → waiting_of met ≡ waiting_child image family.table.place family.number (family.depth + 1) family.next)) }
+    ensures says { IfOk result (λ met. Told (B.state blocks.old).held
+        (λ image. family.table.place + 16 + 44 * family.next + 44 ≤ length image
+        → waiting_of met ≡ waiting_child image family.table.place family.number
+        (family.depth + 1) family.next)) }
     ensures child { IfOk result (IsChildIn family) }
     ensures no_fault { IfErr result IsNoFault }
     ensures effect { ReadsFew 2 (B.state blocks.old) (B.state blocks.new) }
-    ensures cause { IfErr result (HasCount (B.state blocks.old).faults (B.state blocks.new).faults) }
+    ensures cause { IfErr result (HasCount (B.state blocks.old).faults
+        (B.state blocks.new).faults) }
 {
     let bytes = match field_at::<B, 44>(blocks, page, family.table.entry(family.next)) {
         Ok(bytes) => bytes,

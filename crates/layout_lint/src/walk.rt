@@ -46,10 +46,13 @@ pub struct Found {
 }
 
 fn start(alloc: Global) -> Result<Search, Halt>
-    ensures begun { IfOk result (λ search. (image : List ℕ) → IsSearch image (root_waiting image ∷ []) search) }
+    ensures begun { IfOk result (λ search. (image : List ℕ)
+        → IsSearch image (root_waiting image ∷ []) search) }
     ensures used { IfOk result (λ search. search.used ≡ 266) }
-    ensures none { IfOk result (λ search. (search.families.items ≡ []) × (search.nodes.items ≡ [])) }
-    ensures solid { IfOk result (λ search. (end : ℕ) → 265 ≤ end → All (IsSolid end) search.extents.items) }
+    ensures none { IfOk result (λ search. (search.families.items ≡ [])
+        × (search.nodes.items ≡ [])) }
+    ensures solid { IfOk result (λ search. (end : ℕ) → 265 ≤ end
+        → All (IsSolid end) search.extents.items) }
     ensures steady { IfOk result (λ search. (wide : Bool) (end : ℕ) → IsSteady wide end search) }
     ensures want { IfErr result IsWant }
 {
@@ -88,8 +91,17 @@ fn keep(search: &mut Search, met: &Met) -> Result<(), Halt>
 
 // Puts the children of a node above those that wait.
 fn open(search: &mut Search, met: &Met, number: u64, next: &Next) -> Result<(), Halt>
-    ensures opened { OnOk result (search.new.families.items ≡ search.old.families.items ++ record { number = number; depth = met.now.depth; table = next.now.table; children = next.now.children; next = 0 } ∷ []) }
-    ensures same { OnOk result ((search.new.nodes ≡ search.old.nodes) × (search.new.places ≡ search.old.places) × (search.new.extents ≡ search.old.extents) × (search.new.used ≡ search.old.used)) }
+    ensures opened { OnOk result (search.new.families.items
+        ≡ search.old.families.items ++ record {
+          number = number;
+          depth = met.now.depth;
+          table = next.now.table;
+          children = next.now.children;
+          next = 0;
+        } ∷ []) }
+    ensures same { OnOk result ((search.new.nodes ≡ search.old.nodes)
+        × (search.new.places ≡ search.old.places) × (search.new.extents ≡ search.old.extents)
+        × (search.new.used ≡ search.old.used)) }
     ensures want { IfErr result IsWant }
 {
     let family = Family {
@@ -124,14 +136,21 @@ fn turn<B: Blocks>(
     requires follows { MayFollow (map node_place search.old.nodes.items) (met_place met.now) }
     requires left { 2 * left_in search.old.families.items ≤ search.old.used }
     ensures ready { IsReady (B.is_sound blocks.new) (B.state blocks.new).held page.new }
-    ensures goes_on { OnOk result (Told (B.state blocks.old).held (λ image. IsSpan image span → IsSearch image (waiting_in image search.old.families.items ++ waiting_of met.now ∷ []) search.old → IsSearch image (waiting_in image search.new.families.items) search.new)) }
-    ensures stops { IfErr result (λ h. Told (B.state blocks.old).held (λ image. IsSpan image span → IsSearch image (waiting_in image search.old.families.items ++ waiting_of met.now ∷ []) search.old → EndsWalk image h)) }
+    ensures goes_on { OnOk result (Told (B.state blocks.old).held (λ image. IsSpan image span
+        → IsSearch image (waiting_in image search.old.families.items ++ waiting_of met.now
+        ∷ []) search.old
+        → IsSearch image (waiting_in image search.new.families.items) search.new)) }
+    ensures stops { IfErr result (λ h. Told (B.state blocks.old).held (λ image. IsSpan image span
+        → IsSearch image (waiting_in image search.old.families.items ++ waiting_of met.now
+        ∷ []) search.old → EndsWalk image h)) }
     ensures going { OnOk result (IsGoing span.wide span.end search.new) }
     ensures more { OnOk result (search.old.used < search.new.used) }
-    ensures few { OnOk result (ReadsFew (spare search.new - spare search.old) (B.state blocks.old) (B.state blocks.new)) }
+    ensures few { OnOk result (ReadsFew (spare search.new - spare search.old) (B.state blocks.old)
+        (B.state blocks.new)) }
     ensures spare { OnOk result (spare search.old ≤ spare search.new) }
     ensures effect { ReadsFew (3 * (span.end + 1) + 32) (B.state blocks.old) (B.state blocks.new) }
-    ensures cause { IfErr result (MayLackMemory (B.state blocks.old).faults (B.state blocks.new).faults) }
+    ensures cause { IfErr result (MayLackMemory (B.state blocks.old).faults
+        (B.state blocks.new).faults) }
 {
     let known = search.places.contains(&met.place);
     let extents = &mut search.extents;
@@ -163,12 +182,18 @@ fn look_at_root<B: Blocks>(
     requires end { head.now.span.end < 2 ^ 44 }
     requires long { 510 < head.now.span.end }
     ensures ready { IsReady (B.is_sound blocks.new) (B.state blocks.new).held page.new }
-    ensures begun { IfOk result (λ search. Told (B.state blocks.old).held (λ image. IsHead image head.now → IsSearch image (waiting_in image search.families.items) search)) }
-    ensures stops { IfErr result (λ h. Told (B.state blocks.old).held (λ image. IsHead image head.now → EndsWalk image h)) }
+    ensures begun { IfOk result (λ search. Told (B.state blocks.old).held
+        (λ image. IsHead image head.now
+        → IsSearch image (waiting_in image search.families.items) search)) }
+    ensures stops { IfErr result (λ h. Told (B.state blocks.old).held
+        (λ image. IsHead image head.now → EndsWalk image h)) }
     ensures going { IfOk result (IsGoing head.now.span.wide head.now.span.end) }
-    ensures few { IfOk result (λ search. ReadsFew (spare search) (B.state blocks.old) (B.state blocks.new)) }
-    ensures effect { ReadsFew (3 * (head.now.span.end + 1) + 32) (B.state blocks.old) (B.state blocks.new) }
-    ensures cause { IfErr result (MayLackMemory (B.state blocks.old).faults (B.state blocks.new).faults) }
+    ensures few { IfOk result (λ search. ReadsFew (spare search) (B.state blocks.old)
+        (B.state blocks.new)) }
+    ensures effect { ReadsFew (3 * (head.now.span.end + 1) + 32) (B.state blocks.old)
+        (B.state blocks.new) }
+    ensures cause { IfErr result (MayLackMemory (B.state blocks.old).faults
+        (B.state blocks.new).faults) }
 {
     let root = Met {
         place: head.root,
@@ -199,15 +224,21 @@ fn step<B: Blocks>(
     requires end { span.end < 2 ^ 44 }
     requires going { IsGoing span.wide span.end search.old }
     ensures ready { IsReady (B.is_sound blocks.new) (B.state blocks.new).held page.new }
-    ensures goes_on { OnOk result (Told (B.state blocks.old).held (λ image. IsSpan image span → IsSearch image (waiting_in image search.old.families.items) search.old → IsSearch image (waiting_in image search.new.families.items) search.new)) }
-    ensures stops { IfErr result (λ h. Told (B.state blocks.old).held (λ image. IsSpan image span → IsSearch image (waiting_in image search.old.families.items) search.old → EndsWalk image h)) }
+    ensures goes_on { OnOk result (Told (B.state blocks.old).held (λ image. IsSpan image span
+        → IsSearch image (waiting_in image search.old.families.items) search.old
+        → IsSearch image (waiting_in image search.new.families.items) search.new)) }
+    ensures stops { IfErr result (λ h. Told (B.state blocks.old).held (λ image. IsSpan image span
+        → IsSearch image (waiting_in image search.old.families.items) search.old
+        → EndsWalk image h)) }
     ensures going { OnOk result (IsGoing span.wide span.end search.new) }
     ensures more { IfOk result (λ more. more ≡ true → search.old.used < search.new.used) }
     ensures last { IfOk result (λ more. more ≡ false → search.new.families.items ≡ []) }
-    ensures few { OnOk result (ReadsFew (spare search.new - spare search.old) (B.state blocks.old) (B.state blocks.new)) }
+    ensures few { OnOk result (ReadsFew (spare search.new - spare search.old) (B.state blocks.old)
+        (B.state blocks.new)) }
     ensures spare { OnOk result (spare search.old ≤ spare search.new) }
     ensures effect { ReadsFew (3 * (span.end + 1) + 34) (B.state blocks.old) (B.state blocks.new) }
-    ensures cause { IfErr result (MayLackMemory (B.state blocks.old).faults (B.state blocks.new).faults) }
+    ensures cause { IfErr result (MayLackMemory (B.state blocks.old).faults
+        (B.state blocks.new).faults) }
 {
     let family = match take_next(&mut search.families) {
         Ok(Some(family)) => family,
@@ -235,14 +266,19 @@ pub fn look_at_nodes<B: Blocks>(
     requires end { head.now.span.end < 2 ^ 44 }
     requires long { 510 < head.now.span.end }
     ensures ready { IsReady (B.is_sound blocks.new) (B.state blocks.new).held page.new }
-    ensures found { IfOk result (λ found. Told (B.state blocks.old).held (λ image. IsHead image head.now → IsFound image found)) }
-    ensures stops { IfErr result (λ h. Told (B.state blocks.old).held (λ image. IsHead image head.now → EndsWalk image h)) }
+    ensures found { IfOk result (λ found. Told (B.state blocks.old).held
+        (λ image. IsHead image head.now → IsFound image found)) }
+    ensures stops { IfErr result (λ h. Told (B.state blocks.old).held
+        (λ image. IsHead image head.now → EndsWalk image h)) }
     ensures solid { IfOk result (λ found. All (IsSolid head.now.span.end) found.extents.items) }
     ensures whole { IfOk result (IsWhole head.now.span.wide head.now.span.end) }
     ensures room { IfOk result (λ found. found.used ≤ head.now.span.end + 1) }
-    ensures few { IfOk result (λ found. ReadsFew found.used (B.state blocks.old) (B.state blocks.new)) }
-    ensures effect { ReadsFew (5 * (head.now.span.end + 1)) (B.state blocks.old) (B.state blocks.new) }
-    ensures cause { IfErr result (MayLackMemory (B.state blocks.old).faults (B.state blocks.new).faults) }
+    ensures few { IfOk result (λ found. ReadsFew found.used (B.state blocks.old)
+        (B.state blocks.new)) }
+    ensures effect { ReadsFew (5 * (head.now.span.end + 1)) (B.state blocks.old)
+        (B.state blocks.new) }
+    ensures cause { IfErr result (MayLackMemory (B.state blocks.old).faults
+        (B.state blocks.new).faults) }
 {
     let mut search = match look_at_root(alloc, blocks, page, head) {
         Ok(search) => search,

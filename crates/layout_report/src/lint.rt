@@ -22,11 +22,13 @@ pub const KEPT_BLOCKS: usize = 256;
 
 // The verdict on the file of a device, which is given back.
 fn verdict_on<D: Device>(alloc: Global, device: D) -> (D, Result<Verdict, AdfError>)
-    ensures verdict { IfOk result.1 (λ verdict. Told (D.state device).held (λ image. IsVerdict image verdict)) }
+    ensures verdict { IfOk result.1 (λ verdict.
+        Told (D.state device).held (λ image. IsVerdict image verdict)) }
     ensures rule { IfOk result.1 NamesRule }
     ensures cause { IfErr result.1 (MayFail (D.state device).faults (D.state result.0).faults) }
     ensures effect { OnlyReads (D.state device) (D.state result.0) }
-    ensures few { Told (D.state device).held (λ image. ReadsFew (8 * length image + 16) (D.state device) (D.state result.0)) }
+    ensures few { Told (D.state device).held (λ image.
+        ReadsFew (8 * length image + 16) (D.state device) (D.state result.0)) }
 {
     match BlockCache::new(alloc, device, KEPT_BLOCKS) {
         Ok(blocks) => {
@@ -50,7 +52,9 @@ fn report_of(verdict: &Verdict) -> Report
 
 // Says a verdict, if there is memory for its line.
 fn say_verdict<O: Sink>(alloc: Global, verdict: &Verdict, output: &mut O) -> Report
-    ensures says { Ends (verdict_report verdict.now) (verdict_line verdict.now) result (O.taken output.old) (O.taken output.new) (O.faults output.old) (O.faults output.new) ⊎ ((result ≡ Report.Memory) × (output.new ≡ output.old)) }
+    ensures says { Ends (verdict_report verdict.now) (verdict_line verdict.now) result
+        (O.taken output.old) (O.taken output.new) (O.faults output.old) (O.faults output.new)
+        ⊎ ((result ≡ Report.Memory) × (output.new ≡ output.old)) }
     ensures later { O.faults output.old ≤ O.faults output.new }
 {
     match verdict_line(alloc, verdict) {
@@ -61,10 +65,12 @@ fn say_verdict<O: Sink>(alloc: Global, verdict: &Verdict, output: &mut O) -> Rep
 
 /// Says what the linter finds of the file of a device, which is given back: one line. Nothing is written.
 pub fn lint_file<D: Device, O: Sink>(alloc: Global, device: D, output: &mut O) -> (D, Report)
-    ensures says { Says (Linted (D.state device) (D.state result.0)) (O.taken output.old) (O.taken output.new) (O.faults output.old) (O.faults output.new) result.1 }
+    ensures says { Says (Linted (D.state device) (D.state result.0)) (O.taken output.old)
+        (O.taken output.new) (O.faults output.old) (O.faults output.new) result.1 }
     ensures later { O.faults output.old ≤ O.faults output.new }
     ensures effect { OnlyReads (D.state device) (D.state result.0) }
-    ensures few { Told (D.state device).held (λ image. ReadsFew (8 * length image + 16) (D.state device) (D.state result.0)) }
+    ensures few { Told (D.state device).held (λ image.
+        ReadsFew (8 * length image + 16) (D.state device) (D.state result.0)) }
 {
     let (device, found) = verdict_on(alloc, device);
     match found {

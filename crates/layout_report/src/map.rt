@@ -49,7 +49,9 @@ fn line_of(
     requires linked { AreLinked (map node_place nodes.now) }
     requires named { length names.now ≡ length nodes.now }
     requires there { IsThere (length nodes.now) part.now }
-    ensures line { IfOk result (λ line. (tree : Tree) (p : Placement) → IsTree tree → IsNumbered tree → ListsNodes tree p (map node_place nodes.now) → AreNames tree names.now → IsLine tree part.now line.items) }
+    ensures line { IfOk result (λ line. (tree : Tree) (p : Placement) → IsTree tree
+        → IsNumbered tree → ListsNodes tree p (map node_place nodes.now) → AreNames tree names.now
+        → IsLine tree part.now line.items) }
     ensures want { IfErr result (λ e. e ≡ AdfError.Memory) }
 {
     let number = match part.owner {
@@ -78,7 +80,8 @@ fn say_extents<O: Sink>(
     requires linked { AreLinked (map node_place nodes.now) }
     requires named { length names.now ≡ length nodes.now }
     requires there { All (IsThere (length nodes.now)) owned.now }
-    ensures says { Says (Listed nodes.now names.now owned.now end) (O.taken output.old) (O.taken output.new) (O.faults output.old) (O.faults output.new) result }
+    ensures says { Says (Listed nodes.now names.now owned.now end) (O.taken output.old)
+        (O.taken output.new) (O.faults output.old) (O.faults output.new) result }
     ensures later { O.faults output.old ≤ O.faults output.new }
 {
     for k in 0..owned.len() {
@@ -108,12 +111,15 @@ fn map_sound<B: Blocks, O: Sink>(
 ) -> Report
     requires layer { B.is_sound blocks.old }
     requires linked { AreLinked (map node_place nodes.now) }
-    requires sound { Told (B.state blocks.old).held (λ image. (format : Format) × (wide : Bool) × IsLaidOutAs image (map node_place nodes.now) gaps.now end format wide) }
+    requires sound { Told (B.state blocks.old).held (λ image. (format : Format) × (wide : Bool)
+        × IsLaidOutAs image (map node_place nodes.now) gaps.now end format wide) }
     ensures layer { B.is_sound blocks.new }
-    ensures says { Says (Mapped (B.state blocks.old) (B.state blocks.new)) (O.taken output.old) (O.taken output.new) (O.faults output.old) (O.faults output.new) result }
+    ensures says { Says (Mapped (B.state blocks.old) (B.state blocks.new)) (O.taken output.old)
+        (O.taken output.new) (O.faults output.old) (O.faults output.new) result }
     ensures later { O.faults output.old ≤ O.faults output.new }
     ensures effect { ReadsFew (4 * 2 ^ 44 + 35) (B.state blocks.old) (B.state blocks.new) }
-    ensures few { Told (B.state blocks.old).held (λ image. ReadsFew (4 * length image + 35) (B.state blocks.old) (B.state blocks.new)) }
+    ensures few { Told (B.state blocks.old).held
+        (λ image. ReadsFew (4 * length image + 35) (B.state blocks.old) (B.state blocks.new)) }
 {
     match survey(alloc, blocks, nodes, gaps) {
         Ok(found) => {
@@ -128,10 +134,12 @@ fn map_sound<B: Blocks, O: Sink>(
 fn map_blocks<B: Blocks, O: Sink>(alloc: Global, blocks: &mut B, output: &mut O) -> Report
     requires { B.is_sound blocks.old }
     ensures layer { B.is_sound blocks.new }
-    ensures says { Says (Mapped (B.state blocks.old) (B.state blocks.new)) (O.taken output.old) (O.taken output.new) (O.faults output.old) (O.faults output.new) result }
+    ensures says { Says (Mapped (B.state blocks.old) (B.state blocks.new)) (O.taken output.old)
+        (O.taken output.new) (O.faults output.old) (O.faults output.new) result }
     ensures later { O.faults output.old ≤ O.faults output.new }
     ensures effect { ReadsFew (12 * 2 ^ 44 + 51) (B.state blocks.old) (B.state blocks.new) }
-    ensures few { Told (B.state blocks.old).held (λ image. ReadsFew (12 * length image + 51) (B.state blocks.old) (B.state blocks.new)) }
+    ensures few { Told (B.state blocks.old).held
+        (λ image. ReadsFew (12 * length image + 51) (B.state blocks.old) (B.state blocks.new)) }
 {
     match lint(alloc, blocks) {
         Ok(
@@ -151,10 +159,12 @@ fn map_blocks<B: Blocks, O: Sink>(alloc: Global, blocks: &mut B, output: &mut O)
 /// the path of its node if it is a part of one, and one for the last byte. A file that breaks a rule
 /// gets the line of that rule. Nothing is written.
 pub fn map_file<D: Device, O: Sink>(alloc: Global, device: D, output: &mut O) -> (D, Report)
-    ensures says { Says (Mapped (D.state device) (D.state result.0)) (O.taken output.old) (O.taken output.new) (O.faults output.old) (O.faults output.new) result.1 }
+    ensures says { Says (Mapped (D.state device) (D.state result.0)) (O.taken output.old)
+        (O.taken output.new) (O.faults output.old) (O.faults output.new) result.1 }
     ensures later { O.faults output.old ≤ O.faults output.new }
     ensures effect { OnlyReads (D.state device) (D.state result.0) }
-    ensures few { Told (D.state device).held (λ image. ReadsFew (12 * length image + 51) (D.state device) (D.state result.0)) }
+    ensures few { Told (D.state device).held (λ image.
+        ReadsFew (12 * length image + 51) (D.state device) (D.state result.0)) }
 {
     match BlockCache::new(alloc, device, KEPT_BLOCKS) {
         Ok(blocks) => {

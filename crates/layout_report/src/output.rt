@@ -16,7 +16,8 @@ use std::alloc::Global;
 
 /// Prints a line and ends with a report, or with the fault of the sink.
 pub fn say<O: Sink>(output: &mut O, line: &[u8], report: Report) -> Report
-    ensures { Ends report line.now result (O.taken output.old) (O.taken output.new) (O.faults output.old) (O.faults output.new) }
+    ensures { Ends report line.now result (O.taken output.old) (O.taken output.new)
+        (O.faults output.old) (O.faults output.new) }
 {
     match print(output, line) {
         Ok(()) => report,
@@ -26,14 +27,17 @@ pub fn say<O: Sink>(output: &mut O, line: &[u8], report: Report) -> Report
 
 /// Says that a read failed.
 pub fn say_read_fault<O: Sink>(output: &mut O) -> Report
-    ensures { Ends Report.DeviceFault read_fault_line result (O.taken output.old) (O.taken output.new) (O.faults output.old) (O.faults output.new) }
+    ensures { Ends Report.DeviceFault read_fault_line result (O.taken output.old)
+        (O.taken output.new) (O.faults output.old) (O.faults output.new) }
 {
     say(output, b"E02 ReadFault\n", Report::DeviceFault)
 }
 
 /// Says that a rule is broken, if there is memory for its line.
 pub fn say_fault<O: Sink>(alloc: Global, rule: u8, place: u64, output: &mut O) -> Report
-    ensures says { Ends Report.Broken (fault_line rule place) result (O.taken output.old) (O.taken output.new) (O.faults output.old) (O.faults output.new) ⊎ ((result ≡ Report.Memory) × (output.new ≡ output.old)) }
+    ensures says { Ends Report.Broken (fault_line rule place) result (O.taken output.old)
+        (O.taken output.new) (O.faults output.old) (O.faults output.new)
+        ⊎ ((result ≡ Report.Memory) × (output.new ≡ output.old)) }
     ensures later { O.faults output.old ≤ O.faults output.new }
 {
     match fault_line(alloc, rule, place) {
@@ -44,7 +48,9 @@ pub fn say_fault<O: Sink>(alloc: Global, rule: u8, place: u64, output: &mut O) -
 
 /// Says why the work ended early.
 pub fn say_refusal<O: Sink>(alloc: Global, error: AdfError, output: &mut O) -> Report
-    ensures says { Refuses error result (O.taken output.old) (O.taken output.new) (O.faults output.old) (O.faults output.new) ⊎ ((result ≡ Report.Memory) × (output.new ≡ output.old)) }
+    ensures says { Refuses error result (O.taken output.old) (O.taken output.new)
+        (O.faults output.old) (O.faults output.new)
+        ⊎ ((result ≡ Report.Memory) × (output.new ≡ output.old)) }
     ensures later { O.faults output.old ≤ O.faults output.new }
 {
     match error {

@@ -21,7 +21,8 @@ fn block_of(bytes: &[u8], number: usize) -> [u8; 4096]
 // Whether a block is new, or other than before.
 fn is_changed(old: &[u8], new: &[u8], number: usize) -> bool
     requires { number * 4096 + 4096 ≤ length new.now }
-    ensures same { result ≡ false → (number * 4096 + 4096 ≤ length old.now) × (bytes_at old.now (number * 4096) 4096 ≡ bytes_at new.now (number * 4096) 4096) }
+    ensures same { result ≡ false → (number * 4096 + 4096 ≤ length old.now)
+        × (bytes_at old.now (number * 4096) 4096 ≡ bytes_at new.now (number * 4096) 4096) }
     ensures is { result ≡ has_changed old.now new.now number }
 {
     let end = number * 4096 + 4096;
@@ -40,13 +41,17 @@ fn write_changed<D: Device>(
 ) -> Result<(), AdfError>
     requires within { number * 4096 + 4096 ≤ length new.now }
     requires short { length new.now ≤ 2 ^ 44 }
-    ensures written { OnOk result ((first : Option (List ℕ)) → (D.state device.old).held ≡ option_map (λ bytes. mixed number old.now new.now) first
-        → (D.state device.new).held ≡ option_map (λ bytes. mixed (number + 1) old.now new.now) first) }
-    ensures torn { OnErr result ((first : Option (List ℕ)) → (D.state device.old).held ≡ option_map (λ bytes. mixed number old.now new.now) first
+    ensures written { OnOk result ((first : Option (List ℕ))
+        → (D.state device.old).held ≡ option_map (λ bytes. mixed number old.now new.now) first
+        → (D.state device.new).held ≡ option_map
+        (λ bytes. mixed (number + 1) old.now new.now) first) }
+    ensures torn { OnErr result ((first : Option (List ℕ))
+        → (D.state device.old).held ≡ option_map (λ bytes. mixed number old.now new.now) first
         → LeavesTorn old.now new.now (D.state device.new).held) }
     ensures failed { OnErr result (WriteFails (D.state device.old) (D.state device.new)) }
     ensures counts { NoCountFell (D.state device.old) (D.state device.new) }
-    ensures sparing { (D.state device.new).writes ≤ (D.state device.old).writes + (if has_changed old.now new.now number then 1 else 0) }
+    ensures sparing { (D.state device.new).writes
+        ≤ (D.state device.old).writes + (if has_changed old.now new.now number then 1 else 0) }
     ensures told { IsSome (D.state device.old).held → IsSome (D.state device.new).held }
     ensures fault { IfErr result (λ e. e ≡ AdfError.WriteFault) }
 {
@@ -66,12 +71,14 @@ pub fn write_changes<D: Device>(device: &mut D, old: &[u8], new: &[u8]) -> Resul
     requires longer { length old.now ≤ length new.now }
     requires short { length new.now ≤ 2 ^ 44 }
     requires held { IfSome (D.state device.old).held (λ bytes. bytes ≡ old.now) }
-    ensures written { OnOk result ((D.state device.new).held ≡ option_map (λ bytes. new.now) (D.state device.old).held) }
+    ensures written { OnOk result ((D.state device.new).held
+        ≡ option_map (λ bytes. new.now) (D.state device.old).held) }
     ensures told { IsSome (D.state device.old).held → IsSome (D.state device.new).held }
     ensures torn { OnErr result (LeavesTorn old.now new.now (D.state device.new).held) }
     ensures failed { OnErr result (WriteFails (D.state device.old) (D.state device.new)) }
     ensures counts { NoCountFell (D.state device.old) (D.state device.new) }
-    ensures sparing { (D.state device.new).writes ≤ (D.state device.old).writes + changed_blocks (length new.now / 4096) old.now new.now }
+    ensures sparing { (D.state device.new).writes
+        ≤ (D.state device.old).writes + changed_blocks (length new.now / 4096) old.now new.now }
     ensures fault { IfErr result (λ e. e ≡ AdfError.WriteFault) }
 {
     for number in 0..new.len() / 4096 {

@@ -48,7 +48,8 @@ fn tables(room: Room) -> (Table, Option<Table>)
 // Gives a node another list of children, and another table.
 fn adopt(row: &mut Row, children: Vec<u64>, table: Table)
     ensures node { node_of row.new ≡ given_children children.items (node_of row.old) }
-    ensures parts { parts_in row.new ≡ Some (record (parts_or_none (parts_in row.old)) { table = Some (part table) }) }
+    ensures parts { parts_in row.new
+        ≡ Some (record (parts_or_none (parts_in row.old)) { table = Some (part table) }) }
     ensures depth { row.new.depth ≡ row.old.depth }
     ensures gave { row.new.gave ≡ row.old.gave }
 {
@@ -100,10 +101,16 @@ fn add_row(
 ) -> Result<(), AdfError>
     requires parent { parent < length rows.old.items }
     requires low { slice_index_or (depths_of rows.old.items) parent 0 < 2 ^ 32 }
-    ensures tree { OnOk result (tree_of rows.new.items ≡ with_new (tree_of rows.old.items) parent (new_node name.now label.now)) }
-    ensures parts { OnOk result (map parts_in rows.new.items ≡ with_table_at (map parts_in rows.old.items) parent (part (table_in plan.now.room)) ++ Some (record no_parts { header = plan.now.header }) ∷ []) }
-    ensures given { OnOk result (given_up rows.new.items ≡ given_up rows.old.items ++ table_extents (table_part (given_in plan.now.room))) }
-    ensures depths { OnOk result (depths_of rows.new.items ≡ depths_of rows.old.items ++ (slice_index_or (depths_of rows.old.items) parent 0 + 1) ∷ []) }
+    ensures tree { OnOk result (tree_of rows.new.items
+        ≡ with_new (tree_of rows.old.items) parent (new_node name.now label.now)) }
+    ensures parts { OnOk result (map parts_in rows.new.items
+        ≡ with_table_at (map parts_in rows.old.items) parent (part (table_in plan.now.room))
+        ++ Some (record no_parts { header = plan.now.header }) ∷ []) }
+    ensures given { OnOk result (given_up rows.new.items
+        ≡ given_up rows.old.items ++ table_extents (table_part (given_in plan.now.room))) }
+    ensures depths { OnOk result (depths_of rows.new.items
+        ≡ depths_of rows.old.items ++ (slice_index_or (depths_of rows.old.items) parent 0 + 1)
+        ∷ []) }
     ensures refused { OnErr result (rows.new.items ≡ rows.old.items) }
     ensures fault { IfErr result (λ e. e ≡ AdfError.Memory) }
 {

@@ -75,7 +75,8 @@ fn append(text: &mut Vec<u8>, piece: &[u8]) -> Result<(), AdfError>
 // Zeros behind a text, up to a length.
 fn append_zeros(text: &mut Vec<u8>, end: usize) -> Result<(), AdfError>
     requires { length text.old.items ≤ end }
-    ensures done { OnOk result (text.new.items ≡ text.old.items ++ replicate (end - length text.old.items) 0) }
+    ensures done { OnOk result (text.new.items
+        ≡ text.old.items ++ replicate (end - length text.old.items) 0) }
     ensures fault { IfErr result (λ e. e ≡ AdfError.Memory) }
 {
     text.resize(end, 0).map_err(|_| AdfError::Memory)
@@ -86,7 +87,9 @@ fn table_text(alloc: Global, to: Table, used: &[u8], entry: &[u8; 44]) -> Result
     requires few { to.entries < 2 ^ 32 }
     requires place { to.place + table_length to.entries ≤ 2 ^ 44 }
     requires fits { length used.now + 44 ≤ 44 * to.entries }
-    ensures text { IfOk result (λ text. text.items ≡ framed_text SubNodes to.place (used.now ++ entry.now ++ replicate (44 * to.entries - length used.now - 44) 0)) }
+    ensures text { IfOk result (λ text. text.items
+        ≡ framed_text SubNodes to.place (used.now ++ entry.now
+        ++ replicate (44 * to.entries - length used.now - 44) 0)) }
     ensures long { IfOk result (λ text. length text.items ≡ table_length to.entries) }
     ensures fault { IfErr result (λ e. e ≡ AdfError.Memory) }
 {
@@ -106,7 +109,10 @@ fn put_entry(image: &mut Vec<u8>, parent: &Row, table: Table, entry: &[u8; 44])
     requires table { LiesWithin (length image.old.items) table }
     requires free { length parent.now.children.items < table.entries }
     requires header { parent.now.header + 246 ≤ length image.old.items }
-    ensures bytes { image.new.items ≡ written_over (written_over image.old.items (table.place + 16 + 44 * length parent.now.children.items) entry.now) (parent.now.header + 68) (hex_text 8 (suc (length parent.now.children.items))) }
+    ensures bytes { image.new.items ≡ written_over
+        (written_over image.old.items (table.place + 16
+        + 44 * length parent.now.children.items) entry.now) (parent.now.header + 68)
+        (hex_text 8 (suc (length parent.now.children.items))) }
     ensures long { length image.new.items ≡ length image.old.items }
 {
     let count = parent.children.len() as u64;
@@ -121,7 +127,9 @@ fn put_table(image: &mut Vec<u8>, parent: &Row, to: Table, text: &[u8])
     requires place { to.place < 2 ^ 44 }
     requires table { to.place + length text.now ≤ length image.old.items }
     requires header { parent.now.header + 246 ≤ length image.old.items }
-    ensures bytes { image.new.items ≡ written_over (written_over image.old.items to.place text.now) (parent.now.header + 68) (hex_text 8 (suc (length parent.now.children.items)) ++ hex_text 8 to.entries ++ pointer_text (To to.place)) }
+    ensures bytes { image.new.items ≡ written_over (written_over image.old.items to.place text.now)
+        (parent.now.header + 68) (hex_text 8 (suc (length parent.now.children.items))
+        ++ hex_text 8 to.entries ++ pointer_text (To to.place)) }
     ensures long { length image.new.items ≡ length image.old.items }
 {
     let count = parent.children.len() as u32;
@@ -134,7 +142,8 @@ fn put_table(image: &mut Vec<u8>, parent: &Row, to: Table, text: &[u8])
 fn fill(image: &mut Vec<u8>, table: Table)
     requires table { LiesWithin (length image.old.items) table }
     requires few { table.entries < 2 ^ 32 }
-    ensures bytes { image.new.items ≡ written_over image.old.items table.place (replicate (table_length table.entries) 122) }
+    ensures bytes { image.new.items ≡ written_over image.old.items table.place
+        (replicate (table_length table.entries) 122) }
     ensures long { length image.new.items ≡ length image.old.items }
 {
     let at = table.place as usize;
@@ -163,7 +172,10 @@ pub fn with_child(
     requires name { length name.now ≤ 32 }
     requires label { length label.now ≤ 32 }
     requires fits { FitsPlan (length image.now) parent.now plan.now }
-    ensures bytes { IfOk result (λ bytes. bytes.items ≡ all_written (padded image.now (whole_length plan.now.end)) (child_writes (padded image.now (whole_length plan.now.end)) parent.now plan.now name.now label.now)) }
+    ensures bytes { IfOk result (λ bytes. bytes.items
+        ≡ all_written (padded image.now (whole_length plan.now.end))
+        (child_writes (padded image.now (whole_length plan.now.end)) parent.now plan.now name.now
+        label.now)) }
     ensures fault { IfErr result (λ e. e ≡ AdfError.Memory) }
 {
     let entry = entry_text(name, plan.header);

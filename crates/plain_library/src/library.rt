@@ -39,8 +39,10 @@ impl<D: Device> Library<D> {
         requires shelf { IsShelf shelf }
         ensures made { IsOk result }
         ensures ready { IfOk result (IsReady D.state) }
-        ensures files { IfOk result (λ library. files_of library ≡ shelf_files (slots_of D.state shelf)) }
-        ensures devices { IfOk result (λ library. devices_of D.state library ≡ shelf_devices (slots_of D.state shelf)) }
+        ensures files { IfOk result (λ library. files_of library
+            ≡ shelf_files (slots_of D.state shelf)) }
+        ensures devices { IfOk result (λ library. devices_of D.state library
+            ≡ shelf_devices (slots_of D.state shelf)) }
         ensures slots { IfOk result (λ library. slots_in D.state library ≡ slots_of D.state shelf) }
     {
         let mut slots = shelf.slots;
@@ -54,7 +56,8 @@ impl<D: Device> Library<D> {
         ensures whole { IsWhole result }
         ensures shelf { IsShelf result }
         ensures slots { slots_of D.state result ≡ slots_in D.state self }
-        ensures devices { shelf_devices (slots_of D.state result) ≡ map unplaced (devices_of D.state self) }
+        ensures devices { shelf_devices (slots_of D.state result)
+            ≡ map unplaced (devices_of D.state self) }
     {
         let mut slots = self.slots;
         close_all(&mut slots);
@@ -101,7 +104,9 @@ impl<D: Device> Library<D> {
     fn create(&mut self, parent: &NodeId, name: &[u8], label: &[u8]) -> Result<Serials, EditError>
         requires { IsReady D.state self.old }
         ensures ready { IsReady D.state self.new }
-        ensures makes { PlainMakes (files_of self.old) (devices_of D.state self.old) (Changed (Edit.Create parent.now name.now label.now ∷ []) result) (devices_of D.state self.new) (files_of self.new) }
+        ensures makes { PlainMakes (files_of self.old) (devices_of D.state self.old)
+            (Changed (Edit.Create parent.now name.now label.now ∷ []) result)
+            (devices_of D.state self.new) (files_of self.new) }
     {
         if parent.file as usize >= self.slots.len() {
             return Err(refusal_of(AdfError::NoSuchFile));

@@ -60,7 +60,8 @@ fn is_of_name<D: Device>(slot: &Slot<D>, name: &[u8]) -> bool
 // The number of the first slot of this name.
 fn place_in<D: Device>(slots: &[Slot<D>], name: &[u8]) -> Option<u32>
     requires { length slots.now < 2 ^ 32 }
-    ensures number { result ≡ position_from (λ slot. has_name name.now (slot_of D.state slot)) 0 slots.now }
+    ensures number { result ≡ position_from (λ slot.
+        has_name name.now (slot_of D.state slot)) 0 slots.now }
     ensures stands { IfSome result (λ n. n < length slots.now) }
 {
     for (i, slot) in slots.iter().enumerate() {
@@ -128,11 +129,16 @@ impl<D: Device> Shelf<D> {
     pub fn add(&mut self, name: Text, device: D) -> Result<u32, (AdfError, D)>
         requires { length (slots_of D.state self.old) < 2 ^ 32 - 1 }
         ensures number { IfOk result (λ n. n ≡ length (slots_of D.state self.old)) }
-        ensures added { OnOk result (slots_of D.state self.new ≡ slots_of D.state self.old ++ record { name = name; place = There (D.state device) } ∷ []) }
+        ensures added { OnOk result (slots_of D.state self.new
+            ≡ slots_of D.state self.old ++ record { name = name; place = There (D.state device) }
+            ∷ []) }
         ensures fresh { OnOk result (IsNone (number_in (slots_of D.state self.old) name)) }
-        ensures there { IsSome (number_in (slots_of D.state self.old) name) → IsErrAnd result (λ e. e.0 ≡ AdfError.AlreadyOpen) }
-        ensures why { IfErr result (λ e. ((e.0 ≡ AdfError.AlreadyOpen) × IsSome (number_in (slots_of D.state self.old) name)) ⊎ (e.0 ≡ AdfError.Memory)) }
-        ensures refused { IfErr result (λ e. (slots_of D.state self.new ≡ slots_of D.state self.old) × (D.state e.1 ≡ D.state device)) }
+        ensures there { IsSome (number_in (slots_of D.state self.old) name)
+            → IsErrAnd result (λ e. e.0 ≡ AdfError.AlreadyOpen) }
+        ensures why { IfErr result (λ e. ((e.0 ≡ AdfError.AlreadyOpen)
+            × IsSome (number_in (slots_of D.state self.old) name)) ⊎ (e.0 ≡ AdfError.Memory)) }
+        ensures refused { IfErr result (λ e. (slots_of D.state self.new ≡ slots_of D.state self.old)
+            × (D.state e.1 ≡ D.state device)) }
         ensures whole { IsWhole self.old → IsWhole self.new }
         ensures shelf { IsShelf self.new }
     {
@@ -166,7 +172,8 @@ impl<D: Device> Shelf<D> {
     pub fn take(&mut self, number: u32) -> Option<D>
         requires { IsShelf self.old }
         ensures device { option_map D.state result ≡ device_at (slots_of D.state self.old) number }
-        ensures rest { slots_of D.state self.new ≡ changed_at taken (slots_of D.state self.old) number }
+        ensures rest { slots_of D.state self.new
+            ≡ changed_at taken (slots_of D.state self.old) number }
         ensures taken { IsSome result → IsTaken (slots_of D.state self.new) number }
         ensures others { IsWhole self.old → IsWholeBut number self.new }
         ensures shelf { IsShelf self.new }
@@ -182,7 +189,8 @@ impl<D: Device> Shelf<D> {
     pub fn put_back(&mut self, number: u32, device: D)
         requires taken { IsTaken (slots_of D.state self.old) number }
         requires shelf { IsShelf self.old }
-        ensures back { slots_of D.state self.new ≡ with_device (slots_of D.state self.old) number (D.state device) }
+        ensures back { slots_of D.state self.new
+            ≡ with_device (slots_of D.state self.old) number (D.state device) }
         ensures whole { IsWholeBut number self.old → IsWhole self.new }
         ensures shelf { IsShelf self.new }
     {
@@ -194,7 +202,8 @@ impl<D: Device> Shelf<D> {
     pub fn discard(&mut self, number: u32) -> bool
         requires { IsShelf self.old }
         ensures said { result ≡ is_some (device_at (slots_of D.state self.old) number) }
-        ensures rest { slots_of D.state self.new ≡ changed_at discarded (slots_of D.state self.old) number }
+        ensures rest { slots_of D.state self.new
+            ≡ changed_at discarded (slots_of D.state self.old) number }
         ensures whole { IsWhole self.old → IsWhole self.new }
         ensures shelf { IsShelf self.new }
     {
@@ -210,7 +219,8 @@ impl<D: Device> Shelf<D> {
         requires { IsShelf self.now }
         ensures number { result ≡ number_in (slots_of D.state self.now) name.now }
         ensures stands { IfSome result (λ n. n < length (slots_of D.state self.now)) }
-        ensures there { IsWhole self.now → IfSome result (λ n. IsSome (device_at (slots_of D.state self.now) n)) }
+        ensures there { IsWhole self.now
+            → IfSome result (λ n. IsSome (device_at (slots_of D.state self.now) n)) }
     {
         place_in(&self.slots, name)
     }

@@ -32,12 +32,16 @@ pub fn open_slot<D: Device>(alloc: Global, slot: &mut Slot<D>, limit: u64) -> Re
     requires limit { (1 ≤ limit) × (limit ≤ 2 ^ 32) }
     ensures ready { IsReadySlot D.state slot.new }
     ensures name { (file_in slot.new).name ≡ (file_in slot.old).name }
-    ensures opened { IsOpenedAt (file_in slot.old).slot (device_in D.state slot.old) limit result (device_in D.state slot.new) (file_in slot.new).slot }
-    ensures placed { OnErr result ((device_in D.state slot.new).placement ≡ (device_in D.state slot.old).placement) }
+    ensures opened { IsOpenedAt (file_in slot.old).slot (device_in D.state slot.old) limit result
+        (device_in D.state slot.new) (file_in slot.new).slot }
+    ensures placed { OnErr result ((device_in D.state slot.new).placement
+        ≡ (device_in D.state slot.old).placement) }
     ensures gone { is_gone (file_in slot.new).slot ≡ is_gone (file_in slot.old).slot }
-    ensures told { IsSome (device_in D.state slot.old).held → IsSome (device_in D.state slot.new).held }
+    ensures told { IsSome (device_in D.state slot.old).held
+        → IsSome (device_in D.state slot.new).held }
     ensures counts { NoneFell (device_in D.state slot.old) (device_in D.state slot.new) }
-    ensures laid_out { IsLaidOutAt (file_in slot.old).slot (device_in D.state slot.old) → IsLaidOutAt (file_in slot.new).slot (device_in D.state slot.new) }
+    ensures laid_out { IsLaidOutAt (file_in slot.old).slot (device_in D.state slot.old)
+        → IsLaidOutAt (file_in slot.new).slot (device_in D.state slot.new) }
 {
     let Place::There(device) = &mut slot.place else {
         return Err(AdfError::NoSuchFile);
@@ -77,11 +81,14 @@ pub fn close_slot<D: Device>(slot: &mut Slot<D>) -> Result<(), AdfError>
     ensures name { (file_in slot.new).name ≡ (file_in slot.old).name }
     ensures closed { IsClosedAt (file_in slot.old).slot result (file_in slot.new).slot }
     ensures device { slot.new.place ≡ slot.old.place }
-    ensures placed { OnErr result ((device_in D.state slot.new).placement ≡ (device_in D.state slot.old).placement) }
+    ensures placed { OnErr result ((device_in D.state slot.new).placement
+        ≡ (device_in D.state slot.old).placement) }
     ensures gone { is_gone (file_in slot.new).slot ≡ is_gone (file_in slot.old).slot }
-    ensures told { IsSome (device_in D.state slot.old).held → IsSome (device_in D.state slot.new).held }
+    ensures told { IsSome (device_in D.state slot.old).held
+        → IsSome (device_in D.state slot.new).held }
     ensures counts { NoneFell (device_in D.state slot.old) (device_in D.state slot.new) }
-    ensures laid_out { IsLaidOutAt (file_in slot.old).slot (device_in D.state slot.old) → IsLaidOutAt (file_in slot.new).slot (device_in D.state slot.new) }
+    ensures laid_out { IsLaidOutAt (file_in slot.old).slot (device_in D.state slot.old)
+        → IsLaidOutAt (file_in slot.new).slot (device_in D.state slot.new) }
 {
     if !is_there(&slot.place) {
         return Err(AdfError::NoSuchFile);
@@ -133,7 +140,8 @@ fn children_of(
     serials: &[u64],
 ) -> Result<Children, AdfError>
     requires { All (λ child. child < length rows.now) serials.now }
-    ensures children { IfOk result (λ children. children ≡ map (child_entry (tree_of rows.now) file) serials.now) }
+    ensures children { IfOk result (λ children. children
+        ≡ map (child_entry (tree_of rows.now) file) serials.now) }
     ensures fault { IfErr result (λ e. e ≡ AdfError.Memory) }
 {
     let mut children = Vec::new(alloc);
@@ -193,8 +201,11 @@ fn create_in_open<D: Device>(
     requires core { IsCore core.old }
     requires held { IfSome (D.state device.old).held (λ bytes. bytes ≡ core.old.image.items) }
     ensures ready { IsReadyWork (D.state device.new) (created_work result core.new) }
-    ensures created { IsCreatedAt (slot_in (Work.Open core.old)) (placed_device (core_placement core.old) (D.state device.old)) parent.now name.now label.now result
-        (placed_device (placement_in (created_work result core.new)) (D.state device.new)) (slot_in (created_work result core.new)) }
+    ensures created { IsCreatedAt (slot_in (Work.Open core.old))
+        (placed_device (core_placement core.old) (D.state device.old)) parent.now name.now label.now
+        result
+        (placed_device (placement_in (created_work result core.new)) (D.state device.new))
+        (slot_in (created_work result core.new)) }
     ensures told { IsSome (D.state device.old).held → IsSome (D.state device.new).held }
     ensures counts { NoCountFell (D.state device.old) (D.state device.new) }
 {
@@ -233,11 +244,16 @@ fn create_in_file<D: Device>(
 ) -> (Work, Result<Serials, AdfError>)
     requires { IsReadyWork (D.state device.old) kept }
     ensures ready { IsReadyWork (D.state device.new) result.0 }
-    ensures created { IsCreatedAt (slot_in kept) (placed_device (placement_in kept) (D.state device.old)) parent.now name.now label.now result.1
+    ensures created { IsCreatedAt (slot_in kept)
+        (placed_device (placement_in kept) (D.state device.old)) parent.now name.now label.now
+        result.1
         (placed_device (placement_in result.0) (D.state device.new)) (slot_in result.0) }
     ensures told { IsSome (D.state device.old).held → IsSome (D.state device.new).held }
     ensures counts { NoCountFell (D.state device.old) (D.state device.new) }
-    ensures laid_out { IsLaidOutAt (slot_in kept) (placed_device (placement_in kept) (D.state device.old)) → IsLaidOutAt (slot_in result.0) (placed_device (placement_in result.0) (D.state device.new)) }
+    ensures laid_out { IsLaidOutAt (slot_in kept)
+        (placed_device (placement_in kept) (D.state device.old))
+        → IsLaidOutAt (slot_in result.0) (placed_device (placement_in result.0)
+        (D.state device.new)) }
 {
     match kept {
         Work::Open(core) => {
@@ -263,11 +279,15 @@ pub fn create_in_slot<D: Device>(
     requires ready { IsReadySlot D.state slot.old }
     ensures ready { IsReadySlot D.state slot.new }
     ensures name { (file_in slot.new).name ≡ (file_in slot.old).name }
-    ensures created { IsCreatedAt (file_in slot.old).slot (device_in D.state slot.old) parent.now name.now label.now result (device_in D.state slot.new) (file_in slot.new).slot }
+    ensures created { IsCreatedAt (file_in slot.old).slot
+        (device_in D.state slot.old) parent.now name.now label.now result
+        (device_in D.state slot.new) (file_in slot.new).slot }
     ensures gone { is_gone (file_in slot.new).slot ≡ is_gone (file_in slot.old).slot }
-    ensures told { IsSome (device_in D.state slot.old).held → IsSome (device_in D.state slot.new).held }
+    ensures told { IsSome (device_in D.state slot.old).held
+        → IsSome (device_in D.state slot.new).held }
     ensures counts { NoneFell (device_in D.state slot.old) (device_in D.state slot.new) }
-    ensures laid_out { IsLaidOutAt (file_in slot.old).slot (device_in D.state slot.old) → IsLaidOutAt (file_in slot.new).slot (device_in D.state slot.new) }
+    ensures laid_out { IsLaidOutAt (file_in slot.old).slot (device_in D.state slot.old)
+        → IsLaidOutAt (file_in slot.new).slot (device_in D.state slot.new) }
 {
     let Place::There(device) = &mut slot.place else {
         return Err(AdfError::NoSuchFile);

@@ -44,7 +44,8 @@ fn begins_at_0(offsets: &[i64]) -> bool
 }
 
 fn ends_at(offsets: &[i64], entries: u64) -> bool
-    ensures { IsTrue result ↔ (slice_get offsets.now (length offsets.now - 1) ≡ Some (pos entries)) }
+    ensures { IsTrue result
+        ↔ (slice_get offsets.now (length offsets.now - 1) ≡ Some (pos entries)) }
 {
     match offsets.last() {
         Some(&last) => u64::try_from(last) == Ok(entries),
@@ -210,7 +211,8 @@ fn is_no_face(number: i64, faces: &[[i64; 2]]) -> bool
 
 fn lies_in_some(number: i64, faces: &[[i64; 2]]) -> bool
     ensures { IsTrue result
-        ↔ Any (λ range. LiesIn number (slice_index_or range 0 (pos 0)) (slice_index_or range 1 (pos 0)))
+        ↔ Any (λ range. LiesIn number (slice_index_or range 0 (pos 0))
+        (slice_index_or range 1 (pos 0)))
         faces.now }
 {
     faces

@@ -217,7 +217,8 @@ pub fn seen_kind<C: TreeCalls>(calls: &mut C, node: NodeId) -> Result<Option<Lab
     ensures only { OnlyAsks (C.files calls.old) (C.devices calls.old)
         (C.devices calls.new) (C.files calls.new) }
     ensures value { IsTold (C.files calls.old) (C.devices calls.old)
-        → IsValueOr (option_map (kind_there (C.files calls.old)) (target_of (C.files calls.old) node)) result }
+        → IsValueOr (option_map (kind_there (C.files calls.old))
+        (target_of (C.files calls.old) node)) result }
     ensures cause { HasAskCause (C.files calls.old) (C.devices calls.old)
         (C.devices calls.new) result }
 {

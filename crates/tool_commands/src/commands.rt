@@ -18,7 +18,8 @@ use std::mem::replace;
 
 // Ends with a line and a status, or with the fault of the sink.
 fn ended<O: Sink>(output: &mut O, line: &[u8], status: Status) -> Status
-    ensures { EndsWith status line.now result (O.taken output.old) (O.taken output.new) (O.faults output.old) (O.faults output.new) }
+    ensures { EndsWith status line.now result (O.taken output.old) (O.taken output.new)
+        (O.faults output.old) (O.faults output.new) }
 {
     match print(output, line) {
         Ok(()) => status,
@@ -51,7 +52,8 @@ fn init_status_of(made: &Result<(), AdfError>) -> Status
 
 // Makes the fresh file on a device, and says so.
 fn init<D: Device, O: Sink>(device: &mut D, output: &mut O) -> Status
-    ensures { InitEnds result (D.state device.old) (D.state device.new) (O.taken output.old) (O.taken output.new) (O.faults output.old) (O.faults output.new) }
+    ensures { InitEnds result (D.state device.old) (D.state device.new) (O.taken output.old)
+        (O.taken output.new) (O.faults output.old) (O.faults output.new) }
 {
     let made = make_fresh(device);
     ended(output, init_text(&made), init_status_of(&made))
@@ -63,7 +65,9 @@ fn init_on<D: Device, O: Sink>(number: u32, shelf: &mut Shelf<D>, output: &mut O
     requires whole { IsWhole shelf.old }
     requires shelf { IsShelf shelf.old }
     requires there { IsSome (device_at (slots_of D.state shelf.old) number) }
-    ensures init { OnDevice number (λ device after. InitEnds result device after (O.taken output.old) (O.taken output.new) (O.faults output.old) (O.faults output.new)) (slots_of D.state shelf.old) (slots_of D.state shelf.new) }
+    ensures init { OnDevice number (λ device after.
+        InitEnds result device after (O.taken output.old) (O.taken output.new) (O.faults output.old)
+        (O.faults output.new)) (slots_of D.state shelf.old) (slots_of D.state shelf.new) }
     ensures whole { IsWhole shelf.new }
     ensures shelf { IsShelf shelf.new }
 {
@@ -100,7 +104,10 @@ fn lint_on<D: Device, O: Sink>(
     requires whole { IsWhole shelf.old }
     requires shelf { IsShelf shelf.old }
     requires there { IsSome (device_at (slots_of D.state shelf.old) number) }
-    ensures lint { OnDevice number (λ device after. Reports Linted result device after (O.taken output.old) (O.taken output.new) (O.faults output.old) (O.faults output.new)) (slots_of D.state shelf.old) (slots_of D.state shelf.new) }
+    ensures lint { OnDevice number (λ device after.
+        Reports Linted result device after (O.taken output.old) (O.taken output.new)
+        (O.faults output.old) (O.faults output.new)) (slots_of D.state shelf.old)
+        (slots_of D.state shelf.new) }
     ensures whole { IsWhole shelf.new }
     ensures shelf { IsShelf shelf.new }
 {
@@ -123,7 +130,10 @@ fn map_on<D: Device, O: Sink>(
     requires whole { IsWhole shelf.old }
     requires shelf { IsShelf shelf.old }
     requires there { IsSome (device_at (slots_of D.state shelf.old) number) }
-    ensures map { OnDevice number (λ device after. Reports Mapped result device after (O.taken output.old) (O.taken output.new) (O.faults output.old) (O.faults output.new)) (slots_of D.state shelf.old) (slots_of D.state shelf.new) }
+    ensures map { OnDevice number (λ device after.
+        Reports Mapped result device after (O.taken output.old) (O.taken output.new)
+        (O.faults output.old) (O.faults output.new)) (slots_of D.state shelf.old)
+        (slots_of D.state shelf.new) }
     ensures whole { IsWhole shelf.new }
     ensures shelf { IsShelf shelf.new }
 {
@@ -158,8 +168,18 @@ fn session_on<D: Device, I: Source, O: Sink>(
     requires whole { IsWhole shelf.old }
     requires shelf { IsShelf shelf.old }
     ensures session { SessionEnds result (slots_of D.state shelf.old) (slots_of D.state shelf.new)
-        (record { left = I.left input.old; source_faults = I.faults input.old; taken = O.taken output.old; sink_faults = O.faults output.old })
-        (record { left = I.left input.new; source_faults = I.faults input.new; taken = O.taken output.new; sink_faults = O.faults output.new }) }
+        (record {
+          left = I.left input.old;
+          source_faults = I.faults input.old;
+          taken = O.taken output.old;
+          sink_faults = O.faults output.old;
+        })
+        (record {
+          left = I.left input.new;
+          source_faults = I.faults input.new;
+          taken = O.taken output.new;
+          sink_faults = O.faults output.new;
+        }) }
     ensures whole { IsWhole shelf.new }
     ensures shelf { IsShelf shelf.new }
 {
@@ -174,7 +194,8 @@ fn session_on<D: Device, I: Source, O: Sink>(
 }
 
 fn say_usage<O: Sink>(output: &mut O) -> Status
-    ensures { EndsWith Status.Usage usage result (O.taken output.old) (O.taken output.new) (O.faults output.old) (O.faults output.new) }
+    ensures { EndsWith Status.Usage usage result (O.taken output.old) (O.taken output.new)
+        (O.faults output.old) (O.faults output.new) }
 {
     ended(output, b"usage: cgns_tool COMMAND WORD..\n", Status::Usage)
 }
@@ -189,9 +210,20 @@ pub fn run_on<D: Device, I: Source, O: Sink>(
 ) -> Status
     requires whole { IsWhole shelf.old }
     requires shelf { IsShelf shelf.old }
-    ensures run { RunEnds (wanted (map string_bytes words.now) (slots_of D.state shelf.old)) result (slots_of D.state shelf.old) (slots_of D.state shelf.new)
-        (record { left = I.left input.old; source_faults = I.faults input.old; taken = O.taken output.old; sink_faults = O.faults output.old })
-        (record { left = I.left input.new; source_faults = I.faults input.new; taken = O.taken output.new; sink_faults = O.faults output.new }) }
+    ensures run { RunEnds (wanted (map string_bytes words.now) (slots_of D.state shelf.old)) result
+        (slots_of D.state shelf.old) (slots_of D.state shelf.new)
+        (record {
+          left = I.left input.old;
+          source_faults = I.faults input.old;
+          taken = O.taken output.old;
+          sink_faults = O.faults output.old;
+        })
+        (record {
+          left = I.left input.new;
+          source_faults = I.faults input.new;
+          taken = O.taken output.new;
+          sink_faults = O.faults output.new;
+        }) }
     ensures whole { IsWhole shelf.new }
     ensures shelf { IsShelf shelf.new }
 {
@@ -216,9 +248,20 @@ pub fn run_tool<I: Source, O: Sink>(
 ) -> Status
     requires whole { IsWhole shelf.old }
     requires shelf { IsShelf shelf.old }
-    ensures run { RunEnds (wanted (map string_bytes words.now) (slots_of state shelf.old)) result (slots_of state shelf.old) (slots_of state shelf.new)
-        (record { left = I.left input.old; source_faults = I.faults input.old; taken = O.taken output.old; sink_faults = O.faults output.old })
-        (record { left = I.left input.new; source_faults = I.faults input.new; taken = O.taken output.new; sink_faults = O.faults output.new }) }
+    ensures run { RunEnds (wanted (map string_bytes words.now) (slots_of state shelf.old)) result
+        (slots_of state shelf.old) (slots_of state shelf.new)
+        (record {
+          left = I.left input.old;
+          source_faults = I.faults input.old;
+          taken = O.taken output.old;
+          sink_faults = O.faults output.old;
+        })
+        (record {
+          left = I.left input.new;
+          source_faults = I.faults input.new;
+          taken = O.taken output.new;
+          sink_faults = O.faults output.new;
+        }) }
     ensures whole { IsWhole shelf.new }
     ensures shelf { IsShelf shelf.new }
 {

@@ -62,7 +62,8 @@ fn command_on(command: &str, number: u32) -> Wanted
 fn one_file_wanted<D: Device>(words: &[String], shelf: &Shelf<D>) -> Wanted
     requires whole { IsWhole shelf.now }
     requires shelf { IsShelf shelf.now }
-    ensures wanted { result ≡ one_file_wanted (map string_bytes words.now) (slots_of D.state shelf.now) }
+    ensures wanted { result ≡ one_file_wanted (map string_bytes words.now)
+        (slots_of D.state shelf.now) }
     ensures stands { IsOnShelf result (slots_of D.state shelf.now) }
 {
     match words {
@@ -85,7 +86,8 @@ fn is_on<D: Device>(shelf: &Shelf<D>, word: &str) -> bool
 // Whether that holds of all words.
 fn are_on<D: Device>(shelf: &Shelf<D>, words: &[String]) -> bool
     requires { IsShelf shelf.now }
-    ensures { result ≡ list_all (names_device (slots_of D.state shelf.now)) (map string_bytes words.now) }
+    ensures { result ≡ list_all (names_device (slots_of D.state shelf.now))
+        (map string_bytes words.now) }
 {
     for word in words {
         if !is_on(shelf, word.as_str()) {
