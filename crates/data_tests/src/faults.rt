@@ -1,0 +1,48 @@
+//! What is answered where a call of the space fails.
+use crate::spaces::Bytes;
+use crate::steps::{Step, new_heap, run};
+use adf_data::DataPlace;
+use adf_model::AdfError;
+use std::test::Fail;
+
+/// Each kind of call: all ways to grow but gathering, a write, a read and a release.
+const CALLS: [Step; 6] = [
+    Step::Resize { old: 0, new: 100 },
+    Step::Resize { old: 100, new: 150 },
+    Step::Resize { old: 150, new: 160 },
+    Step::Write {
+        element: 8,
+        runs: &[(12, 1), (18, 1)],
+        bytes: b"abcdefghijklmnop",
+    },
+    Step::Read {
+        element: 8,
+        runs: &[(12, 1), (18, 1)],
+        are: b"abcdefghijklmnop",
+    },
+    Step::Release,
+];
+
+// Each call of the space in turn fails: the answer is that fault.
+#[test]
+fn each_call_of_the_space_may_fail(rt: HostRuntime) -> Result<(), Fail> {
+    for k in 1..400 {
+        let mut space = Bytes::new(rt.alloc(), 4096)?;
+        space.failing = k;
+        let mut heap = new_heap(rt.alloc(), &mut space, 1129, 1)?;
+        let mut at = DataPlace::none();
+        match run(&rt, rt.alloc(), &mut heap, &mut space, &mut at, &CALLS) {
+            Ok(()) => {
+                assert!(rt; space.calls < k);
+                return Ok(());
+            }
+            Err(error) => {
+                assert!(rt;
+                    error == AdfError::ReadFault && space.faults == 1,
+                    "at call {k}"
+                )
+            }
+        }
+    }
+    Err("more calls than were to fail")?
+}

@@ -1,0 +1,95 @@
+//! Data of opened files: chunks of any lengths, in any order of places.
+ghost use Rattle.std.specs.Prelude.{◌≡◌, ◌≤◌, ◌^◌, ◌<◌, IfSome};
+ghost use Rattle.disk_ptr.specs.View.{HasOffset};
+
+use crate::spaces::Bytes;
+use adf_chunks::{ChunkEntry, Part, encode_chunk_entry, encode_head, tail};
+use adf_data::DataPlace;
+use disk_ptr::{DiskPtr, from_place};
+
+fn near(at: u64) -> DiskPtr
+    requires { at < 2 ^ 44 }
+    ensures { HasOffset result }
+{
+    from_place(at)
+}
+
+// Writes a chunk with this payload.
+fn put_chunk(space: &mut Bytes, at: u64, payload: &[u8]) -> bool {
+    if at >= 1 << 24 || payload.is_empty() || payload.len() >= 1 << 20 {
+        return false;
+    }
+    let end = at + 16 + payload.len() as u64;
+    space.put(at, &encode_head(Part::Data, near(end)))
+        && space.put(at + 16, payload)
+        && space.put(end, &tail(Part::Data))
+}
+
+// Writes an entry of a table.
+fn put_entry(space: &mut Bytes, entry: u64, at: u64, length: usize) -> bool {
+    if at >= 1 << 24 || length >= 1 << 20 {
+        return false;
+    }
+    let named = ChunkEntry {
+        start: near(at),
+        end_tag: near(at + 16 + length as u64),
+    };
+    space.put(entry, &encode_chunk_entry(named))
+}
+
+// Writes the head and the end tag of a table of so many chunks.
+fn put_table(space: &mut Bytes, at: u64, count: u16) -> bool {
+    if at >= 1 << 24 {
+        return false;
+    }
+    let end = at + 16 + 24 * u64::from(count);
+    space.put(at, &encode_head(Part::Chunks, near(end))) && space.put(end, &tail(Part::Chunks))
+}
+
+/// Chunks with these payloads at these places, and a table of them; their place, where they were made.
+pub fn opened(space: &mut Bytes, table: u64, chunks: &[(u64, &[u8])]) -> Option<DataPlace>
+    ensures { IfSome result (λ at. HasOffset at.pointer) }
+{
+    if table >= 1 << 24 || chunks.len() < 2 || chunks.len() > 1 << 10 {
+        return None;
+    }
+    let mut entry = table + 16;
+    for (at, payload) in chunks {
+        if !put_chunk(space, *at, payload) || !put_entry(space, entry, *at, payload.len()) {
+            return None;
+        }
+        entry = entry.saturating_add(24);
+    }
+    let count = chunks.len() as u16;
+    if !put_table(space, table, count) {
+        return None;
+    }
+    Some(DataPlace {
+        count,
+        pointer: from_place(table),
+    })
+}
+
+/// As many chunks as a table can list, each of one byte, from place 10,000 on, with their table behind them.
+pub fn crowded(space: &mut Bytes) -> Option<DataPlace>
+    ensures { IfSome result (λ at. HasOffset at.pointer) }
+{
+    let table: u64 = 10_000 + 21 * 65_535;
+    let mut entry = table + 16;
+    let mut at: u64 = 10_000;
+    for number in 0..65_535u32 {
+        let byte = (number % 251) as u8;
+        if !put_chunk(space, at, &[byte]) || !put_entry(space, entry, at, 1) {
+            return None;
+        }
+        entry = entry.saturating_add(24);
+        at = at.saturating_add(21);
+    }
+    if !put_table(space, table, 65_535) {
+        return None;
+    }
+    Some(DataPlace {
+        count: 65_535,
+        pointer: from_place(table),
+    })
+}
