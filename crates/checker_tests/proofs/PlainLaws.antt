@@ -56,9 +56,9 @@ may_memory (Query.FormatOf node) = refl
 may_memory (Query.Parent node) = refl
 may_memory (Query.Target node) = refl
 
-free : {A : Type 0} (o : Option AdfError) → IsRefusedBy {A = A} o (Err Memory)
-free None = tt
-free (Some error) = tt
+free : (A : Type 0) (o : Option AdfError) → IsRefusedBy {A = A} o (Err Memory)
+free A None = tt
+free A (Some error) = tt
 
 pub plain_asked : (query : Query) (result : Result Reply AdfError) → IsPlainReply query result → Makes plain_files plain_devices (Asked query result) plain_devices plain_files
 plain_asked query (Ok reply) h = record {
@@ -76,7 +76,7 @@ plain_asked query (Err Memory) h = record {
   layouts = keeps;
   anyway = record {
     leaves = only_asks;
-    entry = record { refused = free _; comes = tt };
+    entry = record { refused = free _ _; comes = tt };
     cause = may_memory query;
     kind = tt;
   };
@@ -101,6 +101,7 @@ plain_asked query (Err LinkMissing) h = record {
     kind = tt;
   };
 }
+plain_asked query (Err error) h = absurd h
 
 -- no group of edits is done, and an empty one does nothing
 no_edits : (edits : List Edit) (result : Result (List NodeId) EditError) → IsToldFor plain_files plain_devices (Changed edits result) → ⊥
@@ -111,8 +112,8 @@ no_edits edits result (inr h) = one_file h.number h.opened h.live h.told
     one_file zero opened live told = absurd (not_true told)
     one_file (suc n) opened live told = absurd (not_there opened live)
 
-pub nothing_edited : (result : Result (List NodeId) EditError) → result ≡ Ok [] → Makes plain_files plain_devices (Changed [] result) plain_devices plain_files
-nothing_edited result e = subst (λ r. Makes plain_files plain_devices (Changed [] r) plain_devices plain_files) (sym e) (record {
+done_nothing : Makes plain_files plain_devices (Changed [] (Ok [])) plain_devices plain_files
+done_nothing = record {
   step = λ told. absurd (no_edits [] (Ok []) told);
   layouts = keeps;
   anyway = record {
@@ -121,17 +122,21 @@ nothing_edited result e = subst (λ r. Makes plain_files plain_devices (Changed 
     entry = record { passed = λ i edit lt. absurd (omega arith); index = tt; refused = tt };
     cause = tt;
   };
-})
+}
+
+pub nothing_edited : (edits : List Edit) (result : Result (List NodeId) EditError) → length edits ≡ 0 → result ≡ Ok [] → Makes plain_files plain_devices (Changed edits result) plain_devices plain_files
+nothing_edited [] result none done = subst (λ r. Makes plain_files plain_devices (Changed [] r) plain_devices plain_files) (sym done) done_nothing
+nothing_edited (edit ∷ edits) result none done = absurd (omega arith)
 
 pub edits_refused : (edits : List Edit) (result : Result (List NodeId) EditError) → 0 < length edits → result ≡ Err (record { at = 0; error = Memory })
     → Makes plain_files plain_devices (Changed edits result) plain_devices plain_files
 edits_refused edits result some e = subst (λ r. Makes plain_files plain_devices (Changed edits r) plain_devices plain_files) (sym e) (record {
-  step = λ told. absurd (no_edits edits _ told);
+  step = λ told. absurd (no_edits edits (Err (record { at = 0; error = Memory })) told);
   layouts = keeps;
   anyway = record {
     leaves = (refl, same None, λ n h. refl);
     names = refl;
-    entry = record { passed = λ i edit lt. absurd (omega arith); index = some; refused = λ edit is. record { refused = free _; comes = tt } };
-    cause = tt;
+    entry = record { passed = λ i edit lt. absurd (omega arith); index = some; refused = λ edit is. record { refused = free _ _; comes = tt } };
+    cause = refl;
   };
 })
