@@ -1,5 +1,5 @@
 -- Entries in a piece of a table are those of the table.
-use Rattle.std.proofs.Common.{◌≡◌, ℕ, ◌+◌, ◌-◌, ◌*◌, ◌≤◌, ◌<◌, ◌/◌, ◌%◌, ◌⊎◌, min, List, length, take, drop, refl, sym, ◌∙◌, ap, arith, Option, None, Some, IfSome, length-take, subst, false, true, inl, inr}
+use Rattle.std.proofs.Common.{◌≡◌, ℕ, ◌+◌, ◌-◌, ◌*◌, ◌≤◌, ◌<◌, ◌/◌, ◌%◌, ◌⊎◌, min, List, length, take, drop, sym, ◌∙◌, ap, arith, Option, None, Some, IfSome, length-take, subst, inl, inr}
 use Rattle.std.proofs.lemmas.Bool.{cases_lt}
 use Rattle.std.specs.Prelude.{Bool, bytes_eq}
 use Rattle.cg_io.specs.Blocks.{blocks_of}

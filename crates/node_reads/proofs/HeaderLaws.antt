@@ -1,5 +1,5 @@
 -- The rules of a header at a place, and the fields of a node that bytes spell.
-use Rattle.std.proofs.Common.{◌≡◌, ℕ, ◌+◌, List, refl, sym, ◌∙◌, ap, length, Bool, Option, None, Some, option_map}
+use Rattle.std.proofs.Common.{◌≡◌, ℕ, ◌+◌, List, refl, ◌∙◌, ap, length, Bool, Option, None, Some, option_map}
 use Rattle.std.specs.Prelude.{unwrap_or}
 use Rattle.adf_format.specs.Fields.{field}
 use Rattle.adf_format.specs.declared.types.DataType.{DataType}

@@ -1,18 +1,18 @@
 -- Nodes of an image that lays out a tree, as they are read.
-use Rattle.std.proofs.Common.{◌≡◌, ℕ, ◌+◌, ◌*◌, ◌^◌, ◌<◌, ◌≤◌, List, [], ◌∷◌, ◌++◌, length, refl, sym, ◌∙◌, ap, subst, arith, Bool, true, false, Option, None, Some, inl, inr}
+use Rattle.std.proofs.Common.{◌≡◌, ℕ, ◌+◌, ◌*◌, ◌^◌, ◌<◌, ◌≤◌, List, ◌∷◌, ◌++◌, length, refl, sym, ◌∙◌, ap, subst, arith, Bool, true, false, Option, None, Some, inl, inr}
 use Rattle.std.proofs.lemmas.Bool.Decides.{nat_tests}
 use Rattle.std.proofs.lemmas.Option.{slice_get_within}
-use Rattle.std.specs.Prelude.{slice_get, nat_le, cond, ◌&&◌, unwrap_or, option_map}
+use Rattle.std.specs.Prelude.{nat_le, cond, ◌&&◌, unwrap_or, option_map}
 use Rattle.adf_format.specs.declared.types.ExtentKind.{ExtentKind}
-use Rattle.adf_format.specs.Fields.{field, text_field}
+use Rattle.adf_format.specs.Fields.{field}
 use Rattle.adf_format.specs.Pointer.{place_value, pointer}
 use Rattle.adf_format.specs.RecordFields.{node_length, table_length}
 use Rattle.adf_format.specs.Checks.{Fault, first_broken}
-use Rattle.adf_format.specs.FirstFault.{node_rows, entry_name, entry_pointer}
+use Rattle.adf_format.specs.FirstFault.{node_rows}
 use Rattle.adf_format.specs.Tiles.{end_of}
-use Rattle.adf_format.specs.Tree.{Tree, Node, children_of, node_at}
-use Rattle.adf_format.specs.Placement.{Placement, NodeParts, TablePart, extent, parts_of, node_extents, table_extents, chunk_table_extents, chunk_extents}
-use Rattle.adf_format.specs.LaysOut.{LaysOut, HoldsNode, HasTable, fields_of, entry_count}
+use Rattle.adf_format.specs.Tree.{Tree, Node, children_of}
+use Rattle.adf_format.specs.Placement.{Placement, NodeParts, TablePart, extent, node_extents, table_extents, chunk_table_extents, chunk_extents}
+use Rattle.adf_format.specs.LaysOut.{HoldsNode, HasTable, fields_of, entry_count}
 use Rattle.adf_format.proofs.FieldLaws.{inner_field}
 use Rattle.adf_format.proofs.ClosureLaws.{IsIn}
 use Rattle.adf_model.proofs.Walks.WalkCounts.{place_small}
@@ -23,7 +23,6 @@ use Rattle.disk_ptr.specs.View.{view, place_of}
 use Rattle.disk_ptr.specs.declared.DiskPtr.{DiskPtr}
 use Rattle.disk_ptr.specs.declared.DiskPtr.TheVariants.{Blank as blank, At}
 use Rattle.adf_records.specs.declared.NodeHeader.{NodeHeader}
-use Rattle.node_reads.specs.Reads.{ReadAt, Breaks}
 use Rattle.node_reads.specs.Headers.{header_rows, IsHeader, table_of, table_rows, SaysFields}
 use Rattle.node_reads.specs.LaidOut.{IsNodeOf, HeaderIsRead, HeaderBreaksNone, TableBreaksNone, EntriesAreChildren}
 use Rattle.node_reads.proofs.ReadLaws.{read_is_field}

@@ -1,5 +1,5 @@
 -- What was read at a place is the field there, where the bytes are told and have it.
-use Rattle.std.proofs.Common.{◌≡◌, ℕ, ◌+◌, ◌≤◌, List, length, Option, None, Some, subst}
+use Rattle.std.proofs.Common.{ℕ, ◌+◌, ◌≤◌, List, length, Option, None, Some, subst}
 use Rattle.adf_format.specs.Fields.{field}
 use Rattle.field_access.specs.Fields.{WhereTold}
 use Rattle.field_access.proofs.FieldLaws.{field_given}

@@ -1,5 +1,5 @@
 -- The entries of tables of children and of data chunks, and the heads of data chunks.
-use Rattle.std.specs.Prelude.{◌≡◌, ℕ, ◌+◌, ◌-◌, ◌*◌, ◌/◌, min, nat_le, Bool, ◌&&◌, cond, List, [], ◌∷◌, Option, Some, None, bytes_eq}
+use Rattle.std.specs.Prelude.{ℕ, ◌+◌, ◌/◌, nat_le, Bool, ◌&&◌, cond, List, [], ◌∷◌, Option, Some, None, bytes_eq}
 use Rattle.adf_format.specs.declared.fields.TheConstants.{HEAD_POINTER, TAG_LENGTH, ENTRY_NAME, ENTRY_CHILD, CHUNK_START, CHUNK_END, DATA_TAG}
 use Rattle.adf_format.specs.Fields.{holds}
 use Rattle.adf_format.specs.RecordFields.{field_in, tag_text}

@@ -1,6 +1,6 @@
 -- What is read of a node in an image that lays out a tree: its header breaks no rule, its table neither, and its entries are its children.
-use Rattle.std.specs.Prelude.{◌≡◌, ℕ, ◌+◌, ◌<◌, ◌≤◌, List, length, slice_get, Option, Some, None}
-use Rattle.adf_format.specs.Fields.{field, text_field}
+use Rattle.std.specs.Prelude.{◌≡◌, ℕ, ◌+◌, ◌≤◌, List, length, slice_get, Some, None}
+use Rattle.adf_format.specs.Fields.{text_field}
 use Rattle.adf_format.specs.Pointer.{PointsTo}
 use Rattle.adf_format.specs.RecordFields.{node_length, table_length}
 use Rattle.adf_format.specs.Checks.{first_broken}

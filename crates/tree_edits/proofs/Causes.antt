@@ -1,5 +1,5 @@
 -- The causes of refusals, and how many blocks a header and a label touch.
-use Rattle.std.proofs.Common.{◌≡◌, ℕ, ◌+◌, ◌-◌, ◌^◌, ◌≤◌, min, sym, ◌∙◌, ap, subst, arith, List, length, Bool, true, false, Option, None, Some}
+use Rattle.std.proofs.Common.{◌≡◌, ℕ, ◌≤◌, sym, ◌∙◌, ap, subst, arith, List, length, Bool, true, false, Option, None, Some}
 use Rattle.std.specs.Prelude.{IfSome, is_some, Result, Ok, Err, OnOk, IfErr}
 use Rattle.std.proofs.lemmas.Result.{IfErr-weaker}
 use Rattle.adf_format.specs.declared.fields.TheConstants.{NODE_TYPE}
@@ -54,7 +54,7 @@ module _ (core : Core) (node : NodeId) (label : List ℕ) (held : Option (List �
   later : (before middle now : ℕ) (e : AdfError) → before ≤ middle → IsRefusal ⊥ middle now e → IsLabelCause core node label held before now e
   later before middle now error.Memory le h = tt
   later before middle now error.ReadFault le h = (row_there (named_row core node) row found, rose_later before middle now le h)
-  later before middle now (error.Layout rule at) le h = absurd h
+  later before middle now (error.Layout rule at) le h = absurd h.1
   later before middle now other le h = absurd h
 
   pub write_cause : {T : Type 0} (r : Result T AdfError) (before middle now : ℕ) → before ≤ middle → IfErr r (IsRefusal ⊥ middle now) → IfErr r (IsLabelCause core node label held before now)

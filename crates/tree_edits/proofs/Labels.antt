@@ -1,6 +1,6 @@
 -- A label that is written in a node's header, and the refusals of labels.
-use Rattle.std.proofs.Common.{◌≡◌, ℕ, refl, sym, ◌∙◌, ap, subst, arith, List, [], ◌∷◌, length, ◌+◌, ◌≤◌, Bool, true, false, not, ◌||◌, Option, None, Some}
-use Rattle.std.specs.Prelude.{is_some, IfSome, Result, Ok, Err, OnOk, IfErr}
+use Rattle.std.proofs.Common.{◌≡◌, ℕ, refl, sym, ◌∙◌, ap, subst, List, [], ◌∷◌, length, ◌+◌, Bool, true, false, not, ◌||◌, Option, None, Some}
+use Rattle.std.specs.Prelude.{is_some, IfSome, Result, Ok, OnOk, IfErr}
 use Rattle.std.proofs.lemmas.Result.{on_ok_weaker, IfErr-weaker}
 use Rattle.cg_io.specs.Blocks.{Both}
 use Rattle.cg_io.specs.Answers.{IsRefusal}
@@ -19,6 +19,7 @@ use Rattle.adf_model.specs.declared.tree.NodeId.{NodeId}
 use Rattle.adf_model.specs.Tests.{checked, if_there, first_refusal}
 use Rattle.adf_model.specs.Edits.{file_step, with_node}
 use Rattle.adf_model.proofs.Basics.{same_Some}
+use Rattle.adf_model.proofs.Following.StepTests.{step_tests}
 use Rattle.adf_records.specs.declared.NodeHeader.{NodeHeader}
 use Rattle.field_access.specs.Fields.{range}
 use Rattle.node_reads.specs.Reads.{ReadAt, Breaks, IsUnread}
@@ -28,7 +29,7 @@ use Rattle.tree_laws.proofs.Whole.Texts.{label_is_whole}
 use Rattle.tree_edits.specs.declared.rows.Row.{Row}
 use Rattle.tree_edits.specs.declared.memory.Core.{Core}
 use Rattle.tree_edits.specs.Rows.{Means, row_of}
-use Rattle.tree_edits.specs.Edits.{memory_of, Follows, Does, Refuses}
+use Rattle.tree_edits.specs.Edits.{memory_of, Does, Refuses}
 use Rattle.tree_edits.proofs.Tables.{table_stays}
 use Rattle.tree_edits.proofs.Nodes.{the_node, header_says, no_break, no_node}
 
@@ -44,7 +45,7 @@ tested tree at label writable o ok =
     (if_there o AdfError.NoSuchNode (λ n. checked ((not ok, AdfError.BadLabel) ∷ []) (Ok (with_node tree at.serial (record n { label = label })))))
 
 step_is : (tree : Tree) (at : NodeId) (label : List ℕ) (writable : Bool) (o : Option Node) (ok : Bool) → node_at tree at.serial ≡ o → is_label label ≡ ok → file_step writable tree (Edit.SetLabel at label) ≡ tested tree at label writable o ok
-step_is tree at label writable o ok here test = ap (λ (x : Option Node). tested tree at label writable x (is_label label)) here ∙ ap (tested tree at label writable o) test
+step_is tree at label writable o ok here test = step_tests writable tree (Edit.SetLabel at label) ∙ ap (λ (x : Option Node). tested tree at label writable x (is_label label)) here ∙ ap (tested tree at label writable o) test
 
 -- ... of a node that is there, by what is known of it
 abbrev at_node : Tree → NodeId → List ℕ → Node → Bool → Bool → Bool → Result Tree AdfError
@@ -80,7 +81,7 @@ module _ (image : List ℕ) (core : Core) (node : NodeId) (label : List ℕ) whe
     unwritten : (before now : ℕ) (e : AdfError) → IsRefusal ⊥ before now e → Refuses edit core e image
     unwritten before now error.Memory h = λ tree p m. tt
     unwritten before now error.ReadFault h = fault
-    unwritten before now (error.Layout rule at) h = absurd h
+    unwritten before now (error.Layout rule at) h = absurd h.1
     unwritten before now other h = absurd h
 
     module _ (header : NodeHeader) (r : ReadAt (Some image) row.place (node_length core.wide) (IsHeader core.wide row.place None header)) (link : Bool) (is : link ≡ is_lk header.kind) where

@@ -1,14 +1,9 @@
 -- The node of a row, and what is read of its header.
-use Rattle.std.proofs.Common.{◌≡◌, ℕ, ◌+◌, ◌≤◌, List, [], ◌∷◌, refl, sym, ◌∙◌, ap, subst, arith, Bool, true, false, not, ◌||◌, Option, None, Some}
-use Rattle.std.specs.Prelude.{IfSome, is_some}
-use Rattle.adf_format.specs.Names.{is_lk}
+use Rattle.std.proofs.Common.{◌≡◌, ℕ, List, sym, subst, None, Some}
 use Rattle.adf_format.specs.RecordFields.{node_length}
-use Rattle.adf_format.specs.Tree.{Tree, Node, node_at, is_link}
-use Rattle.adf_format.specs.Placement.{Placement, NodeParts, parts_of}
+use Rattle.adf_format.specs.Tree.{Tree, Node, node_at}
+use Rattle.adf_format.specs.Placement.{Placement, NodeParts}
 use Rattle.adf_format.specs.LaysOut.{fields_of}
-use Rattle.adf_model.specs.declared.error.AdfError.{AdfError}
-use Rattle.adf_model.specs.declared.error.AdfError.TheVariants as error
-use Rattle.adf_model.specs.Tests.{first_refusal}
 use Rattle.adf_records.specs.declared.NodeHeader.{NodeHeader}
 use Rattle.node_reads.specs.Reads.{ReadAt, Breaks}
 use Rattle.node_reads.specs.Headers.{IsHeader, header_rows, SaysFields}

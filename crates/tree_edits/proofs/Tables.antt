@@ -1,12 +1,11 @@
 -- What the table of nodes says.
-use Rattle.std.proofs.Common.{◌≡◌, ℕ, refl, sym, ◌∙◌, ap, subst, arith, List, length, ◌+◌, ◌-◌, ◌<◌, ◌≤◌, Bool, true, false, inl, inr}
-use Rattle.std.proofs.lemmas.Bool.Decides.{eqb_tells}
+use Rattle.std.proofs.Common.{◌≡◌, ℕ, refl, sym, ◌∙◌, ap, subst, List, length, ◌-◌, true, false}
 use Rattle.std.proofs.lemmas.List.{length-set}
-use Rattle.std.specs.Prelude.{Option, Some, None, is_some, slice_index_or, IsSome}
-use Rattle.adf_format.specs.Tree.{Tree, Node, node_at, is_live, next_serial, parent_of, parent_from, depth_of, lineage, climb, families, children_of}
+use Rattle.std.specs.Prelude.{Option, Some, None, is_some, slice_index_or}
+use Rattle.adf_format.specs.Tree.{Tree, Node, node_at, parent_from, lineage, climb, families, children_of}
 use Rattle.adf_format.specs.Placement.{Placement, NodeParts, parts_of}
 use Rattle.adf_format.specs.LaysOut.{LaysOut}
-use Rattle.adf_format.specs.HeapRule.{parts_at, parts_or_none}
+use Rattle.adf_format.specs.HeapRule.{parts_or_none}
 use Rattle.adf_format.proofs.LayoutLaws.{live_parts}
 use Rattle.adf_model.specs.Edits.{with_node}
 use Rattle.adf_model.proofs.Basics.{not_true}

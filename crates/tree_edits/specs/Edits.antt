@@ -7,7 +7,7 @@ use Rattle.adf_model.specs.declared.tree.Edit.{Edit}
 use Rattle.adf_model.specs.Steps.{IsFileRefusal}
 use Rattle.tree_laws.specs.Spared.{IsEditWhole}
 use Rattle.tree_edits.specs.declared.memory.Core.{Core}
-use Rattle.tree_edits.specs.Rows.{Memory, Means, IsTable}
+use Rattle.tree_edits.specs.Rows.{Memory, Means}
 
 -- what is in memory, in work
 abbrev pub memory_of : Core → Memory

@@ -1,5 +1,5 @@
 -- Rows that can be undone.
-use Rattle.std.specs.Prelude.{◌≡◌, ℕ, ◌<◌, ◌≤◌, List, [], ◌∷◌, length, take, Option, slice_set}
+use Rattle.std.specs.Prelude.{ℕ, ◌<◌, ◌≤◌, List, [], ◌∷◌, length, take, Option, slice_set}
 use Rattle.std.specs.List.{AllByRecursion}
 use Rattle.tree_edits.specs.declared.rows.Row.{Row}
 use Rattle.tree_edits.specs.declared.rows.Undone.{Undone}

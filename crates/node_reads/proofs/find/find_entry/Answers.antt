@@ -1,4 +1,4 @@
-use Rattle.std.proofs.Common.{◌≡◌, ◌+◌, ◌-◌, ◌*◌, ◌≤◌, ◌/◌, ◌∙◌, ℕ, min, length, arith, sym, None, Some}
+use Rattle.std.proofs.Common.{◌+◌, ◌-◌, ◌*◌, ◌≤◌, ◌∙◌, length, arith, sym, None, Some}
 use Rattle.cg_io.proofs.ReadLaws.{reads_then}
 use Rattle.node_reads.proofs.EntryLaws.{found_until, first_of_all, gives_again, at_edge, edge_after, piece_cost}
 use Rattle.node_reads.proofs.find.find_entry.Goals as goal

@@ -1,4 +1,4 @@
-use Rattle.std.proofs.Common.{◌-◌, ◌≡◌, ◌+◌, ◌*◌, ◌≤◌, ◌<◌, ◌%◌, ◌⊎◌, length, None, ℕ}
+use Rattle.std.proofs.Common.{◌-◌, ◌≡◌, ◌*◌, ◌≤◌, ◌%◌, ◌⊎◌, length, None}
 use Rattle.cg_io.specs.Blocks.{ReadsFew}
 use Rattle.node_reads.specs.Entries.{pieces_of}
 use Rattle.node_reads.proofs.EntryLaws.{FoundIn}

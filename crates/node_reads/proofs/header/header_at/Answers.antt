@@ -1,4 +1,4 @@
-use Rattle.std.proofs.Common.{◌≡◌, ◌+◌, ap, sym, subst, Bool, None, Some}
+use Rattle.std.proofs.Common.{◌≡◌, ◌+◌, subst, Bool, None, Some}
 use Rattle.adf_format.specs.Checks.{first_broken}
 use Rattle.adf_format.specs.FirstFault.{node_rows}
 use Rattle.node_reads.proofs.HeaderLaws.{rows_kept, rows_broken}

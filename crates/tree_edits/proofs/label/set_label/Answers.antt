@@ -1,4 +1,4 @@
-use Rattle.std.proofs.Common.{◌≡◌, ◌+◌, ◌≤◌, ◌∙◌, sym, arith, length, true, false}
+use Rattle.std.proofs.Common.{◌+◌, ◌∙◌, sym, arith, length, true, false}
 use Rattle.cg_io.proofs.ReadLaws.{reads_then, reads_more}
 use Rattle.tree_edits.proofs.Labels.{refused_none, refused_unread, refused_link, refused_read_only, refused_label, refused_write, done}
 use Rattle.tree_edits.proofs.Causes.{header_blocks, field_blocks, at_row, row_there, link_said, unread_cause, write_cause, where_ok, label_long}
