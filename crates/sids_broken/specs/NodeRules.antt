@@ -27,7 +27,7 @@ is_no_small_node FamilyName files at = is_no_text files at
 is_no_small_node Descriptor files at = is_no_text files at
 is_no_small_node DimensionalUnits files at = not (is_array_of C1 (32 ∷ 5 ∷ []) (node_there files at))
 is_no_small_node DimensionalExponents files at = not (is_array_of R4 (5 ∷ []) (node_there files at) || is_array_of R8 (5 ∷ []) (node_there files at))
-is_no_small_node other files at = false
+is_no_small_node _ files at = false
 
 -- K32 bc-points, by the children of a boundary condition
 abbrev pub are_points_bad : ℕ → Files → List SeenChild → Bool
