@@ -342,7 +342,7 @@ fn extents_of_sound_files(rt: HostRuntime) -> Result<(), Fail> {
 
 // The nodes of a file by other numbers than those of the tree: their places, and what their names begin
 // with.
-const OTHER_ORDER: [(u64, u8); 4] = [(954, b'B'), (300, b'C'), (1200, b'A'), (600, b'A')];
+const OTHER_ORDER: [(u64, u8); 4] = [(954, b'B'), (300, b'C'), (1200, b'A'), (600, b'T')];
 
 const IN_OTHER_ORDER: [Piece; 10] = [
     HEADER,
