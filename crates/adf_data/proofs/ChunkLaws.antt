@@ -29,21 +29,19 @@ use Rattle.adf_data.specs.Ranges.{AreIn, byte_place}
 use Rattle.adf_data.specs.Fills.{Fills, Copies, IsBeside, MakesChunk}
 use Rattle.adf_data.proofs.PayloadLaws.{payloads_at, length-payloads}
 use Rattle.adf_data.proofs.RunLaws.{field_join}
+use Rattle.adf_data.proofs.SpanLaws.{wrote_keeps}
 
 -- ---- ranges in a range
 
 pub part_of_range : (at n place m : ℕ) (old new : List ℕ) → place ≤ at → at + n ≤ place + m → KeepsOutside at n old new → KeepsOutside place m old new
-part_of_range at n place m old new low high k = record { longer = k.longer; outside = λ b out. k.outside b (far b out) }
+part_of_range at n place m old new low high k = record { longer = k.longer; outside = λ b out. k.outside b (far b out); grows = λ b past here. let g = k.grows b past here in let some = g.0 in let to = g.1 in (omega (arith, some, low, high), omega (arith, some, to, low, high)) }
   where
     far : (b : ℕ) → (b < place) ⊎ (place + m ≤ b) → (b < at) ⊎ (at + n ≤ b)
     far b (inl h) = inl (omega (arith, h, low))
     far b (inr h) = inr (omega (arith, h, high))
 
 pub kept_then : (place m : ℕ) (a b c : List ℕ) → KeepsOutside place m a b → KeepsOutside place m b c → KeepsOutside place m a c
-kept_then place m a b c v w = record { longer = (let p = v.longer in let q = w.longer in omega (arith, p, q)); outside = λ k out. w.outside k out ∙ v.outside k out }
-
-pub wrote_keeps : (place n : ℕ) (from a b : List ℕ) → length from ≡ n → Wrote place from a b → KeepsOutside place n a b
-wrote_keeps place n from a b e w = record { longer = w.longer; outside = λ k out. w.outside k (subst (λ m. (k < place) ⊎ (place + m ≤ k)) (sym e) out) }
+kept_then place m a b c v w = record { longer = (let p = v.longer in let q = w.longer in omega (arith, p, q)); outside = λ k out. w.outside k out ∙ v.outside k out; grows = λ k past here. elim (cases_lt k (length b)) [ inl before ↦ v.grows k past before | inr after ↦ w.grows k after here ] }
 
 same_byte : (a b : List ℕ) (k : ℕ) → length a ≤ length b → k < length a → get_or b k 0 ≡ get_or a k 0 → slice_get b k ≡ slice_get a k
 same_byte a b k le lt e = slice_get-get_or b k 0 (omega (arith, le, lt)) ∙ ap (λ x. Some x) e ∙ sym (slice_get-get_or a k 0 lt)
@@ -168,14 +166,15 @@ all_made parts kept n place head tag a b c d e long fits near short head_is tag_
     (both_then (Then (Wrote place head) (Copies parts kept kept (place + 16))) (Fills (place + 16 + kept) (n - 20 - kept)) a c d (both_then (Wrote place head) (Copies parts kept kept (place + 16)) a b c first second) third) last)
 
 -- what is written, piece by piece, lies in the chunk
-module _ (place n kept : ℕ) (head : List ℕ) (p : Pointer) (head_is : head ≡ head_text Data p) (fits : 20 + kept ≤ n) (a b c d : Option (List ℕ))
-    (first : Both (KeepsOutside place (length head)) a b) (second : Both (KeepsOutside (place + 16) kept) b c) (third : Both (KeepsOutside (place + 16 + kept) (n - 20 - kept)) c d) where
-  pub body_changes : Both (KeepsOutside place n) a d
-  body_changes =
+module _ (place n kept : ℕ) (head : List ℕ) (p : Pointer) (head_is : head ≡ head_text Data p) (fits : 20 + kept ≤ n) (a b c : Option (List ℕ))
+    (first : Both (KeepsOutside place (length head)) a b) (second : Both (KeepsOutside (place + 16) kept) b c) where
+  pub copy_changes : Both (KeepsOutside place n) a c
+  copy_changes =
       let l : length head ≡ 16 = ap length head_is ∙ head_size p in
-      keeps_then place n a c d
-      (keeps_then place n a b c (in_chunk place (length head) place n a b (omega arith) (omega (arith, l, fits)) first) (in_chunk (place + 16) kept place n b c (omega arith) (omega (arith, fits)) second))
-      (in_chunk (place + 16 + kept) (n - 20 - kept) place n c d (omega arith) (omega (arith, fits)) third)
+      keeps_then place n a b c (in_chunk place (length head) place n a b (omega arith) (omega (arith, l, fits)) first) (in_chunk (place + 16) kept place n b c (omega arith) (omega (arith, fits)) second)
 
-  pub tail_changes : (tag : List ℕ) (e : Option (List ℕ)) → tag ≡ end_tag Data → Both (KeepsOutside (place + n - 4) (length tag)) d e → Both (KeepsOutside place n) a e
-  tail_changes tag e tag_is last = let l : length tag ≡ 4 = ap length tag_is in keeps_then place n a d e body_changes (in_chunk (place + n - 4) (length tag) place n d e (omega (arith, fits)) (omega (arith, fits, l)) last)
+  pub body_changes : (d : Option (List ℕ)) → Both (KeepsOutside (place + 16 + kept) (n - 20 - kept)) c d → Both (KeepsOutside place n) a d
+  body_changes d third = keeps_then place n a c d copy_changes (in_chunk (place + 16 + kept) (n - 20 - kept) place n c d (omega arith) (omega (arith, fits)) third)
+
+  pub tail_changes : (d : Option (List ℕ)) → Both (KeepsOutside (place + 16 + kept) (n - 20 - kept)) c d → (tag : List ℕ) (e : Option (List ℕ)) → tag ≡ end_tag Data → Both (KeepsOutside (place + n - 4) (length tag)) d e → Both (KeepsOutside place n) a e
+  tail_changes d third tag e tag_is last = let l : length tag ≡ 4 = ap length tag_is in keeps_then place n a d e (body_changes d third) (in_chunk (place + n - 4) (length tag) place n d e (omega (arith, fits)) (omega (arith, fits, l)) last)

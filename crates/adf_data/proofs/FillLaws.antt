@@ -8,10 +8,11 @@ use Rattle.adf_format.specs.Placement.{ChunkPart}
 use Rattle.adf_format.specs.HeapRule.{payload_length}
 use Rattle.adf_data.specs.Ranges.{byte_place, IsRead, ChangesBytes, WritesBytes}
 use Rattle.adf_data.specs.Fills.{Fills, ChangesAt, AllZero, ZeroesBytes, CopiesPart, Copies, IsBeside}
+use Rattle.adf_data.proofs.SpanLaws.{wrote_keeps, reached_more}
 
 pub fills_none : (place : ℕ) (image : Option (List ℕ)) → Both (Fills place 0) image image
 fills_none place None = tt
-fills_none place (Some bytes) = record { changes = record { longer = omega arith; outside = λ b out. refl }; zeros = λ k low high. absurd (omega (arith, low, high)) }
+fills_none place (Some bytes) = record { changes = record { longer = omega arith; outside = λ b out. refl; grows = λ b past here. absurd (omega (arith, past, here)) }; zeros = λ k low high. absurd (omega (arith, low, high)) }
 
 -- bytes that are all zero
 abbrev pub AreZero : List ℕ → Type 0
@@ -31,6 +32,10 @@ changed_then : (place done n m : ℕ) (old middle new : List ℕ) → done + n �
 changed_then place done n m old middle new le c w = record {
   longer = (let p = c.longer in let q = w.longer in omega (arith, p, q));
   outside = λ b out. let o = outside_more place done n m b le out in w.outside b o.1 ∙ c.outside b o.0;
+  grows = λ b past here. elim (cases_lt b (length middle)) [
+    | inl before ↦ (let g = c.grows b past before in let some = g.0 in let far = g.1 in (omega (arith, some, le), omega (arith, some, far, le)))
+    | inr after ↦ (let g = w.grows b after here in let some = g.0 in let far = g.1 in (omega (arith, some, le), omega (arith, some, far, le)))
+  ];
 }
 
 pub refused_fill : (place done n m : ℕ) (old middle new : Option (List ℕ)) → done + n ≤ m → Both (Fills place done) old middle → Both (KeepsOutside (place + done) n) middle new → Both (ChangesAt place m) old new
@@ -46,7 +51,7 @@ part_filled place n piece None None w long zero = tt
 part_filled place n piece None (Some new) w long zero = w
 part_filled place n piece (Some old) None w long zero = w
 part_filled place n piece (Some old) (Some new) w long zero = record {
-  changes = record { longer = w.longer; outside = λ b out. w.outside b (subst (λ k. (b < place) ⊎ (place + k ≤ b)) (sym long) out) };
+  changes = wrote_keeps place n piece old new long w;
   zeros = λ k low high. w.within k low (omega (arith, high, long)) ∙ zero (k - place) (omega (arith, high, long, low));
 }
 
@@ -57,7 +62,7 @@ pub part_written : (place n : ℕ) (piece : List ℕ) (old new : Option (List �
 part_written place n piece None None e w = tt
 part_written place n piece None (Some new) e w = w
 part_written place n piece (Some old) None e w = w
-part_written place n piece (Some old) (Some new) e w = record { longer = w.longer; outside = λ b out. w.outside b (subst (λ k. (b < place) ⊎ (place + k ≤ b)) (sym e) out) }
+part_written place n piece (Some old) (Some new) e w = wrote_keeps place n piece old new e w
 
 fill_step : (place done n : ℕ) (old middle new : List ℕ) → Fills place done old middle → Fills (place + done) n middle new → Fills place (done + n) old new
 fill_step place done n old middle new c w = record {
@@ -103,13 +108,13 @@ part_copied parts first n to piece old middle new e read long w = go old new rea
     go None (Some new) read w = w
     go (Some old) None read w = w
     go (Some old) (Some new) read w = record {
-      changes = record { longer = w.longer; outside = λ b out. w.outside b (subst (λ k. (b < to) ⊎ (to + k ≤ b)) (sym long) out) };
+      changes = wrote_keeps to n piece old new long w;
       copied = λ k lt. w.within (to + k) (omega arith) (omega (arith, lt, long)) ∙ ap (λ i. get_or piece i 0) (back to k) ∙ read k lt;
     }
 
 pub copies_none : (parts : List ChunkPart) (all to : ℕ) (image : Option (List ℕ)) → Both (Copies parts all 0 to) image image
 copies_none parts all to None = tt
-copies_none parts all to (Some bytes) = record { changes = record { longer = omega arith; outside = λ b out. refl }; copied = λ beside k lt. absurd (omega (arith, lt)) }
+copies_none parts all to (Some bytes) = record { changes = record { longer = omega arith; outside = λ b out. refl; grows = λ b past here. absurd (omega (arith, past, here)) }; copied = λ beside k lt. absurd (omega (arith, lt)) }
 
 pub changes_copy : (parts : List ChunkPart) (all n to : ℕ) (old new : Option (List ℕ)) → Both (Copies parts all n to) old new → Both (ChangesAt to n) old new
 changes_copy parts all n to None None c = tt
@@ -156,7 +161,7 @@ copies_then parts all to done n (Some old) (Some middle) (Some new) le within c 
 
 pub zeroes_none : (parts : List ChunkPart) (first : ℕ) (image : Option (List ℕ)) → Both (ZeroesBytes parts first 0) image image
 zeroes_none parts first None = tt
-zeroes_none parts first (Some bytes) = record { changes = record { longer = omega arith; outside = λ b none. refl }; zeros = λ once j lt. absurd (omega (arith, lt)) }
+zeroes_none parts first (Some bytes) = record { changes = record { longer = omega arith; outside = λ b none. refl; grows = λ b past here. absurd (omega (arith, past, here)) }; zeros = λ once j lt. absurd (omega (arith, lt)) }
 
 pub changes_zeroes : (parts : List ChunkPart) (first n : ℕ) (old new : Option (List ℕ)) → Both (ZeroesBytes parts first n) old new → Both (ChangesBytes parts first n) old new
 changes_zeroes parts first n None None z = tt
@@ -168,6 +173,10 @@ both_change : (parts : List ChunkPart) (first done n m : ℕ) (old middle new : 
 both_change parts first done n m old middle new le c w = record {
   longer = (let p = c.longer in let q = w.longer in omega (arith, p, q));
   outside = λ b none. w.outside b (λ j lt e. none (done + j) (omega (arith, lt, le)) (ap (byte_place parts) (there j) ∙ e)) ∙ c.outside b (λ j lt. none j (omega (arith, lt, le)));
+  grows = λ b past here. elim (cases_lt b (length middle)) [
+    | inl before ↦ reached_more parts first done first m b (omega arith) (omega (arith, le)) (c.grows b past before)
+    | inr after ↦ reached_more parts (first + done) n first m b (omega arith) (omega (arith, le)) (w.grows b after here)
+  ];
 }
   where
     there : (j : ℕ) → first + (done + j) ≡ first + done + j

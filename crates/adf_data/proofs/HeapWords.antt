@@ -24,7 +24,7 @@ untold_too (Some bytes) u = u
 refusal : (P Q : Type 0) (a b : ℕ) (e : AdfError) → (P → Q) → heap.IsRefusal P a b e → IsRefusal Q a b e
 refusal P Q a b error.Memory f h = h
 refusal P Q a b error.ReadFault f h = h
-refusal P Q a b (error.Layout rule place) f h = f h
+refusal P Q a b (error.Layout rule place) f h = (h.0, f h.1)
 refusal P Q a b other f h = h
 
 pub all_refusals : {T : Type 0} (P Q : Type 0) (a b : ℕ) (r : Result T AdfError) → (P → Q) → IfErr r (heap.IsRefusal P a b) → IfErr r (IsRefusal Q a b)
@@ -59,7 +59,7 @@ grow_refusal : (P Q : Type 0) (a b : ℕ) (e : AdfError) → (P → Q) → heap.
 grow_refusal P Q a b (error.Full asked end) f h = tt
 grow_refusal P Q a b error.Memory f h = h
 grow_refusal P Q a b error.ReadFault f h = h
-grow_refusal P Q a b (error.Layout rule place) f h = f h
+grow_refusal P Q a b (error.Layout rule place) f h = (h.0, f h.1)
 grow_refusal P Q a b other f h = h
 
 pub grow_refusals : {T : Type 0} (P Q : Type 0) (a b : ℕ) (r : Result T AdfError) → (P → Q) → IfErr r (heap.IsTakeRefusal P a b) → IfErr r (IsGrowRefusal Q a b)
@@ -98,14 +98,14 @@ pub grow_later : (P Q : Type 0) (a b c : ℕ) (e : AdfError) → a ≤ b → (P 
 grow_later P Q a b c (error.Full asked end) le f h = tt
 grow_later P Q a b c error.Memory le f h = h
 grow_later P Q a b c error.ReadFault le f h = rose_later a b c le h
-grow_later P Q a b c (error.Layout rule place) le f h = f h
+grow_later P Q a b c (error.Layout rule place) le f h = (h.0, f h.1)
 grow_later P Q a b c other le f h = h
 
 pub grown_later : (P Q : Type 0) (a b c : ℕ) (e : AdfError) → a ≤ b → (P → Q) → IsGrowRefusal P b c e → IsGrowRefusal Q a c e
 grown_later P Q a b c (error.Full asked end) le f h = tt
 grown_later P Q a b c error.Memory le f h = h
 grown_later P Q a b c error.ReadFault le f h = rose_later a b c le h
-grown_later P Q a b c (error.Layout rule place) le f h = f h
+grown_later P Q a b c (error.Layout rule place) le f h = (h.0, f h.1)
 grown_later P Q a b c other le f h = h
 
 -- ---- relations of bytes beside one another

@@ -1,5 +1,5 @@
 -- Bytes of the data that are read and written, span by span.
-use Rattle.std.proofs.Common.{◌≡◌, ◌≢◌, ◌⊎◌, inl, inr, ℕ, ◌+◌, ◌-◌, ◌<◌, ◌≤◌, arith, List, ◌++◌, length, take, drop, get_or, refl, sym, ◌∙◌, ap, subst, length-take, length-drop, rules}
+use Rattle.std.proofs.Common.{◌≡◌, ◌≢◌, ◌⊎◌, inl, inr, ℕ, ◌+◌, ◌-◌, ◌/◌, ◌<◌, ◌≤◌, arith, List, ◌++◌, length, take, drop, get_or, refl, sym, ◌∙◌, ap, subst, length-take, length-drop, rules}
 use Rattle.std.proofs.lemmas.List.{get_or_append_left, get_or-append_right, get_or-take, get_or-drop, places}
 use Rattle.std.proofs.lemmas.Bool.{cases_lt}
 use Rattle.std.specs.Prelude.{Option, Some, None}
@@ -9,7 +9,15 @@ use Rattle.cg_io.specs.Blocks.{Both, Wrote, KeepsOutside}
 use Rattle.cg_io.proofs.Places.{get_or-bytes_at}
 use Rattle.adf_format.specs.Placement.{ChunkPart}
 use Rattle.adf_format.specs.HeapRule.{payload_length}
-use Rattle.adf_data.specs.Ranges.{byte_place, AreOnce, IsRead, ChangesBytes, WritesBytes}
+use Rattle.adf_data.specs.Ranges.{byte_place, IsReachedBy, AreOnce, IsRead, ChangesBytes, WritesBytes}
+
+-- what was written left the bytes outside its range
+pub wrote_keeps : (place n : ℕ) (piece a b : List ℕ) → length piece ≡ n → Wrote place piece a b → KeepsOutside place n a b
+wrote_keeps place n piece a b e w = subst (λ m. KeepsOutside place m a b) e (record { longer = w.longer; outside = w.outside; grows = w.grows })
+
+-- more bytes of the data reach as far
+pub reached_more : (parts : List ChunkPart) (first n from m b : ℕ) → from ≤ first → first + n ≤ from + m → IsReachedBy parts first n b → IsReachedBy parts from m b
+reached_more parts first n from m b low high r = record { byte = r.byte; low = (let l = r.low in omega (arith, low, l)); high = (let h = r.high in omega (arith, high, h)); block = r.block }
 
 -- some bytes of the data, from one on, stand from a place on
 abbrev pub StandAt : List ChunkPart → ℕ → ℕ → ℕ → Type 0
@@ -43,7 +51,7 @@ read_more parts first done n m place into piece image now same read given long l
 
 pub written_none : (parts : List ChunkPart) (first : ℕ) (from : List ℕ) (image : Option (List ℕ)) → Both (WritesBytes parts first from 0) image image
 written_none parts first from None = tt
-written_none parts first from (Some bytes) = record { changes = record { longer = omega arith; outside = λ b none. refl }; within = λ once j lt. absurd (omega (arith, lt)) }
+written_none parts first from (Some bytes) = record { changes = record { longer = omega arith; outside = λ b none. refl; grows = λ b past here. absurd (omega (arith, past, here)) }; within = λ once j lt. absurd (omega (arith, lt)) }
 
 pub changes_of : (parts : List ChunkPart) (first n : ℕ) (from : List ℕ) (old new : Option (List ℕ)) → Both (WritesBytes parts first from n) old new → Both (ChangesBytes parts first n) old new
 changes_of parts first n from None None w = tt
@@ -70,12 +78,18 @@ changed_more : (parts : List ChunkPart) (first done n place : ℕ) (old middle n
 changed_more parts first done n place old middle new c w stands = record {
   longer = (let p = c.longer in let q = w.longer in omega (arith, p, q));
   outside = λ b none. w.outside b (beside parts first done n place b stands none) ∙ c.outside b (λ j lt. none j (omega (arith, lt)));
+  grows = λ b past here. elim (cases_lt b (length middle)) [
+    | inl before ↦ reached_more parts first done first (done + n) b (omega arith) (omega arith) (c.grows b past before)
+    | inr after ↦
+        (let g = w.grows b after here in let some : 0 < n = g.0 in let far : b / 4096 ≤ (place + n - 1) / 4096 = g.1 in let at : byte_place parts (first + done + (n - 1)) ≡ place + (n - 1) = stands (n - 1) (omega (arith, some)) in
+        record { byte = first + done + (n - 1); low = omega arith; high = omega (arith, some); block = omega (arith, some, far, at) })
+  ];
 }
 
 written_step : (parts : List ChunkPart) (first done n place : ℕ) (from piece old middle new : List ℕ) → WritesBytes parts first from done old middle → Wrote place piece middle new → length piece ≡ n → piece ≡ take n (drop done from)
     → first + (done + n) ≤ payload_length parts → StandAt parts (first + done) n place → WritesBytes parts first from (done + n) old new
 written_step parts first done n place from piece old middle new c w long is within stands = record {
-  changes = changed_more parts first done n place old middle new c.changes (record { longer = w.longer; outside = λ b out. w.outside b (subst (λ k. (b < place) ⊎ (place + k ≤ b)) (sym long) out) }) stands;
+  changes = changed_more parts first done n place old middle new c.changes (wrote_keeps place n piece middle new long w) stands;
   within = λ once j lt. elim (cases_lt j done) [
     | inl low ↦ w.outside (byte_place parts (first + j)) (elsewhere once j low) ∙ c.within once j low
     | inr high ↦ here j high lt
@@ -134,7 +148,7 @@ refused_more parts first done n all place from (Some old) None new c w le stands
 refused_more parts first done n all place from (Some old) (Some middle) None c w le stands = w
 refused_more parts first done n all place from (Some old) (Some middle) (Some new) c w le stands =
     let m = changed_more parts first done n place old middle new c.changes w stands in
-    record { longer = m.longer; outside = λ b none. m.outside b (λ j lt. none j (omega (arith, lt, le))) }
+    record { longer = m.longer; outside = λ b none. m.outside b (λ j lt. none j (omega (arith, lt, le))); grows = λ b past here. reached_more parts first (done + n) first all b (omega arith) (omega (arith, le)) (m.grows b past here) }
 
 pub length-put : (at n : ℕ) (into piece : List ℕ) → length piece ≡ n → at + n ≤ length into → length (put_mid at (at + n - at) into piece) ≡ length into
 length-put at n into piece long le = search (rules, places)

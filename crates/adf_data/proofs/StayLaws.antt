@@ -255,7 +255,7 @@ alone_none at old new e = subst (λ (i : Option (List ℕ)). Both (ChangesDataAl
   where
     same : (o : Option (List ℕ)) → Both (ChangesDataAlone at) o o
     same None = tt
-    same (Some bytes) = λ parts n. record { longer = omega arith; others = λ b none. refl }
+    same (Some bytes) = λ parts n. record { longer = omega arith; others = λ b none. refl; grows = λ b past here. absurd (omega (arith, past, here)) }
 
 alone_step : (at : DataPlace) (chunks : List Chunk) (old new : List ℕ) → ((parts : NodeParts) → AreNamed at parts old → parts_of chunks ≡ parts.chunks) → ChangesPayloads (parts_of chunks) old new → ChangesDataAlone at old new
 alone_step at chunks old new says w parts n =
@@ -263,6 +263,7 @@ alone_step at chunks old new says w parts n =
     record {
       longer = v.longer;
       others = λ b none. v.outside b (λ j lt e. clash b j none lt e);
+      grows = λ b past here. let g = v.grows b past here in let h = g.high in record { byte = byte_place parts.chunks g.byte; own = (let c = payload_covered parts.chunks g.byte (omega (arith, h)) in omega (arith, c)); block = g.block };
     }
   where
     clash : (b j : ℕ) → cover (payload_extents parts.chunks) b ≡ 0 → j < payload_length parts.chunks → byte_place parts.chunks j ≡ b → ⊥

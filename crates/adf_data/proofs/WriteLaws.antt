@@ -1,5 +1,6 @@
 -- Elements that are written over, run by run.
-use Rattle.std.proofs.Common.{◌≡◌, ℕ, zero, suc, ◌+◌, ◌*◌, ◌<◌, ◌≤◌, arith, List, [], ◌∷◌, ◌++◌, length, take, drop, refl, sym, ◌∙◌, ap, append_assoc}
+use Rattle.std.proofs.Common.{◌≡◌, inl, inr, ℕ, zero, suc, ◌+◌, ◌*◌, ◌<◌, ◌≤◌, arith, List, [], ◌∷◌, ◌++◌, length, take, drop, refl, sym, ◌∙◌, ap, append_assoc}
+use Rattle.std.proofs.lemmas.Bool.{cases_lt}
 use Rattle.std.proofs.lemmas.List.{take_at, take-append-drop, drop-drop, append-nil, length-append, length-take, length-drop}
 use Rattle.std.proofs.lemmas.List.FromFn.{length-range_with_len}
 use Rattle.std.proofs.Math.Seq.{drop-append-add}
@@ -17,6 +18,7 @@ use Rattle.adf_data.specs.Ranges.{AreIn, ChangesBytes, WritesBytes}
 use Rattle.adf_data.specs.Runs.{run_bytes, run_at, ChangesPayloads, WritesRuns}
 use Rattle.adf_data.proofs.PayloadLaws.{payloads_written, still_in, length-payloads, length-written_over}
 use Rattle.adf_data.proofs.RunLaws.{take_sum, spread_more}
+use Rattle.adf_data.proofs.SpanLaws.{reached_more}
 
 -- ---- pieces one behind another
 
@@ -79,12 +81,16 @@ bytes_of_spread element (r ∷ rs) =
 
 pub writes_none : (parts : List ChunkPart) (element : ℕ) (from : List ℕ) (image : Option (List ℕ)) → Both (WritesRuns parts element [] from) image image
 writes_none parts element from None = tt
-writes_none parts element from (Some bytes) = record { changes = record { longer = omega arith; outside = λ b none. refl }; said = λ once all. refl }
+writes_none parts element from (Some bytes) = record { changes = record { longer = omega arith; outside = λ b none. refl; grows = λ b past here. absurd (omega (arith, past, here)) }; said = λ once all. refl }
 
 changes_more : (parts : List ChunkPart) (first n : ℕ) (old middle new : List ℕ) → ChangesPayloads parts old middle → ChangesBytes parts first n middle new → first + n ≤ payload_length parts → ChangesPayloads parts old new
 changes_more parts first n old middle new c w le = record {
   longer = (let p = c.longer in let q = w.longer in omega (arith, p, q));
   outside = λ b none. w.outside b (λ j lt. none (first + j) (omega (arith, lt, le))) ∙ c.outside b none;
+  grows = λ b past here. elim (cases_lt b (length middle)) [
+    | inl before ↦ c.grows b past before
+    | inr after ↦ reached_more parts first n 0 (payload_length parts) b (omega arith) (omega (arith, le)) (w.grows b after here)
+  ];
 }
 
 pub all_changes : (parts : List ChunkPart) (element : ℕ) (runs : List Run) (from : List ℕ) (old new : Option (List ℕ)) → Both (WritesRuns parts element runs from) old new → Both (ChangesPayloads parts) old new

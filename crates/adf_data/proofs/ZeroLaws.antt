@@ -19,6 +19,7 @@ use Rattle.adf_data.specs.Runs.{ChangesPayloads}
 use Rattle.adf_data.specs.Growing.{KeepsHeap}
 use Rattle.adf_data.proofs.KeptLaws.{covered, is_in, is_behind}
 use Rattle.adf_data.proofs.PayloadLaws.{payloads_written}
+use Rattle.adf_data.proofs.SpanLaws.{reached_more}
 
 -- ---- the first of some chunks
 
@@ -43,6 +44,9 @@ zeroes_front parts more first n old new le z = record {
   changes = record {
     longer = z.changes.longer;
     outside = λ b none. z.changes.outside b (λ j lt e. none j lt (place_in_front parts more (first + j) (omega (arith, le, lt)) ∙ e));
+    grows = λ b past here.
+        let g = z.changes.grows b past here in let l = g.low in let h = g.high in let k = g.block in let same = place_in_front parts more g.byte (omega (arith, h, le)) in
+        record { byte = g.byte; low = l; high = h; block = omega (arith, k, same) };
   };
   zeros = λ once j lt. ap (λ b. get_or new b 0) (place_in_front parts more (first + j) (omega (arith, le, lt))) ∙ z.zeros (once_in_front parts more once) j lt;
 }
@@ -53,7 +57,7 @@ pub zeroes_write : (parts : List ChunkPart) (first n : ℕ) (old new : List ℕ)
 zeroes_write parts first n old new z = record { changes = z.changes; within = λ once j lt. z.zeros once j lt ∙ sym (get_or-replicate n j 0 0 lt) }
 
 pub zeroes_payloads : (parts : List ChunkPart) (first n : ℕ) (old new : List ℕ) → first + n ≤ payload_length parts → ZeroesBytes parts first n old new → ChangesPayloads parts old new
-zeroes_payloads parts first n old new le z = record { longer = z.changes.longer; outside = λ b none. z.changes.outside b (λ j lt. none (first + j) (omega (arith, le, lt))) }
+zeroes_payloads parts first n old new le z = record { longer = z.changes.longer; outside = λ b none. z.changes.outside b (λ j lt. none (first + j) (omega (arith, le, lt))); grows = λ b past here. reached_more parts first n 0 (payload_length parts) b (omega arith) (omega (arith, le)) (z.changes.grows b past here) }
 
 pub payloads_zeroed : (parts : List ChunkPart) (first n : ℕ) (old new : List ℕ) → AreOnce parts → AreIn parts old → first + n ≤ payload_length parts → ZeroesBytes parts first n old new → payloads new parts ≡ written_over (payloads old parts) first (replicate n 0)
 payloads_zeroed parts first n old new once all le z =
@@ -65,6 +69,7 @@ pub changes_chunks : (parts : List ChunkPart) (first n : ℕ) (old new : List �
 changes_chunks parts first n old new le z = record {
   longer = z.longer;
   others = λ b none. z.outside b (λ j lt e. clash b j lt none e);
+  grows = λ b past here. let g = z.grows b past here in let h = g.high in record { byte = byte_place parts g.byte; own = (let c = covered parts g.byte (omega (arith, h, le)) in omega (arith, c)); block = g.block };
 }
   where
     clash : (b j : ℕ) → j < n → cover (chunk_extents parts) b ≡ 0 → byte_place parts (first + j) ≡ b → ⊥

@@ -1,7 +1,7 @@
 use Rattle.std.proofs.Common.{◌+◌, ◌-◌, ◌∙◌, ap}
 use Rattle.adf_format.specs.Records.{Data, head_text}
 use Rattle.adf_data.specs.Chunks.{parts_of}
-use Rattle.adf_data.proofs.ChunkLaws.{all_made, view_from, body_changes, tail_changes}
+use Rattle.adf_data.proofs.ChunkLaws.{all_made, view_from, copy_changes, body_changes, tail_changes}
 use Rattle.adf_data.proofs.fills.write_chunk.Goals as goal
 
 pub returns-in-Ok-store-clause-made : goal.returns-in-Ok-store-clause-made
@@ -10,14 +10,18 @@ returns-in-Ok-store-clause-made g c =
     c.requires.long c.requires.fits c.requires.near c.requires.kept (c.encode_head.ensures ∙ ap (head_text Data) (view_from (c.args.place + c.args.length - 4) c.from_place.result c.from_place.ensures)) c.tail.ensures
     c.in-Ok.ensures.written c.in-Ok-copy_out.ensures.copied c.in-Ok-fill.ensures.filled c.in-Ok-store.ensures.written
 
+pub returns-in-Err-copy_out-clause-bytes : goal.returns-in-Err-copy_out-clause-bytes
+returns-in-Err-copy_out-clause-bytes g c = copy_changes c.args.place c.args.length c.args.kept _ _ c.encode_head.ensures c.requires.fits (g.S.ReadBytes.image c.args.space.now) (g.S.ReadBytes.image c.store.new.space) (g.S.ReadBytes.image c.copy_out.new.space)
+    c.store.ensures.bytes c.copy_out.ensures.bytes
+
 pub returns-in-Err-fill-clause-bytes : goal.returns-in-Err-fill-clause-bytes
-returns-in-Err-fill-clause-bytes g c = body_changes c.args.place c.args.length c.args.kept _ _ c.encode_head.ensures c.requires.fits (g.S.ReadBytes.image c.args.space.now) (g.S.ReadBytes.image c.store.new.space) (g.S.ReadBytes.image c.copy_out.new.space) (g.S.ReadBytes.image c.fill.new.space)
-    c.store.ensures.bytes c.copy_out.ensures.bytes c.fill.ensures.bytes
+returns-in-Err-fill-clause-bytes g c = body_changes c.args.place c.args.length c.args.kept _ _ c.encode_head.ensures c.requires.fits (g.S.ReadBytes.image c.args.space.now) (g.S.ReadBytes.image c.store.new.space) (g.S.ReadBytes.image c.copy_out.new.space)
+    c.store.ensures.bytes c.copy_out.ensures.bytes (g.S.ReadBytes.image c.fill.new.space) c.fill.ensures.bytes
 
 pub returns-in-Ok-store-clause-bytes : goal.returns-in-Ok-store-clause-bytes
-returns-in-Ok-store-clause-bytes g c = tail_changes c.args.place c.args.length c.args.kept _ _ c.encode_head.ensures c.requires.fits (g.S.ReadBytes.image c.args.space.now) (g.S.ReadBytes.image c.store.new.space) (g.S.ReadBytes.image c.copy_out.new.space) (g.S.ReadBytes.image c.fill.new.space)
-    c.store.ensures.bytes c.copy_out.ensures.bytes c.fill.ensures.bytes _ (g.S.ReadBytes.image c.store-2.new.space) c.tail.ensures c.store-2.ensures.bytes
+returns-in-Ok-store-clause-bytes g c = tail_changes c.args.place c.args.length c.args.kept _ _ c.encode_head.ensures c.requires.fits (g.S.ReadBytes.image c.args.space.now) (g.S.ReadBytes.image c.store.new.space) (g.S.ReadBytes.image c.copy_out.new.space)
+    c.store.ensures.bytes c.copy_out.ensures.bytes (g.S.ReadBytes.image c.fill.new.space) c.fill.ensures.bytes _ (g.S.ReadBytes.image c.store-2.new.space) c.tail.ensures c.store-2.ensures.bytes
 
 pub returns-in-Err-store-clause-bytes : goal.returns-in-Err-store-clause-bytes
-returns-in-Err-store-clause-bytes g c = tail_changes c.args.place c.args.length c.args.kept _ _ c.encode_head.ensures c.requires.fits (g.S.ReadBytes.image c.args.space.now) (g.S.ReadBytes.image c.store.new.space) (g.S.ReadBytes.image c.copy_out.new.space) (g.S.ReadBytes.image c.fill.new.space)
-    c.store.ensures.bytes c.copy_out.ensures.bytes c.fill.ensures.bytes _ (g.S.ReadBytes.image c.store-2.new.space) c.tail.ensures c.store-2.ensures.bytes
+returns-in-Err-store-clause-bytes g c = tail_changes c.args.place c.args.length c.args.kept _ _ c.encode_head.ensures c.requires.fits (g.S.ReadBytes.image c.args.space.now) (g.S.ReadBytes.image c.store.new.space) (g.S.ReadBytes.image c.copy_out.new.space)
+    c.store.ensures.bytes c.copy_out.ensures.bytes (g.S.ReadBytes.image c.fill.new.space) c.fill.ensures.bytes _ (g.S.ReadBytes.image c.store-2.new.space) c.tail.ensures c.store-2.ensures.bytes

@@ -3,9 +3,15 @@ use Rattle.std.proofs.lemmas.List.{length-map, length-append}
 use Rattle.cg_io.specs.Blocks.{Both, KeepsOutside}
 use Rattle.adf_data.specs.Chunks.{part_of, parts_of}
 use Rattle.adf_data.proofs.HeapWords.{end_then, fillers_then}
-use Rattle.adf_data.proofs.RoomLaws.{threads_stay, end_stays, fillers_stay, written_in_room}
+use Rattle.adf_data.proofs.RoomLaws.{taken_in_room, threads_stay, end_stays, fillers_stay, written_in_room}
 use Rattle.adf_data.proofs.GrowLaws.{all_tables}
 use Rattle.adf_data.proofs.grow.put_table.Goals as goal
+
+pub returns-in-Err-clause-bytes : goal.returns-in-Err-clause-bytes
+returns-in-Err-clause-bytes g c = taken_in_room c.args.heap.now.now c.take_range.new.heap.now (g.S.ReadBytes.image c.args.space.now) (g.S.ReadBytes.image c.take_range.new.space) c.take_range.ensures.bytes
+
+pub returns-in-Err-table_text-clause-bytes : goal.returns-in-Err-table_text-clause-bytes
+returns-in-Err-table_text-clause-bytes g c = taken_in_room c.args.heap.now.now c.take_range.new.heap.now (g.S.ReadBytes.image c.args.space.now) (g.S.ReadBytes.image c.take_range.new.space) c.take_range.ensures.bytes
 
 pub returns-in-Ok-store-clause-puts : goal.returns-in-Ok-store-clause-puts
 returns-in-Ok-store-clause-puts g c =

@@ -19,7 +19,7 @@ returns-in-Err-clause-cause g c =
 
 pub returns-then-have-old-clause-cause : goal.returns-then-have-old-clause-cause
 returns-then-have-old-clause-cause g c =
-    too_short c.args.at.now c.deref.result.now c.table_in-table.result (g.S.ReadBytes.image c.args.space.now) (g.S.ReadBytes.image c.list_chunks.new.space) c.list_chunks.ensures.image (subst (λ (cs : List Chunk). (parts : NodeParts) → Named c.args.at.now parts (g.S.ReadBytes.image c.args.space.now) → parts_of cs ≡ parts.chunks) (sym c.deref.ensures.value) c.in-Ok.ensures.says) (λ q m. c.table_in-table.ensures.says q (g.S.ReadBytes.image c.args.space.now) m) c.args.old c.args.heap.now.now c.payload_total-have.result c.payload_total-have.ensures c.if-have-old.true
+    ((omega arith, omega arith), too_short c.args.at.now c.deref.result.now c.table_in-table.result (g.S.ReadBytes.image c.args.space.now) (g.S.ReadBytes.image c.list_chunks.new.space) c.list_chunks.ensures.image (subst (λ (cs : List Chunk). (parts : NodeParts) → Named c.args.at.now parts (g.S.ReadBytes.image c.args.space.now) → parts_of cs ≡ parts.chunks) (sym c.deref.ensures.value) c.in-Ok.ensures.says) (λ q m. c.table_in-table.ensures.says q (g.S.ReadBytes.image c.args.space.now) m) c.args.old c.args.heap.now.now c.payload_total-have.result c.payload_total-have.ensures c.if-have-old.true)
 
 pub returns-then-new-have-clause-resized : goal.returns-then-new-have-clause-resized
 returns-then-new-have-clause-resized g c =
