@@ -25,8 +25,8 @@ not_told told = absurd (not_true (told 0 refl))
 same : (one : Option ℕ) → OthersOnlyRead one plain_devices plain_devices
 same one = record {
   count = refl;
-  others = λ n h. record { held = refl; faults = omega arith; lost = refl; writes = refl };
-  counts = λ n. record { faults = omega arith; lost = omega arith; writes = omega arith };
+  others = λ n h. record { held = refl; lost = refl; writes = refl; reads = omega arith; faults = omega arith };
+  counts = λ n. record { faults = omega arith; lost = omega arith; reads = omega arith; writes = omega arith };
 }
 
 only_asks : OnlyAsks plain_files plain_devices plain_devices plain_files
@@ -121,6 +121,7 @@ done_nothing = record {
     names = refl;
     entry = record { passed = λ i edit lt. absurd (omega arith); index = tt; refused = tt };
     cause = tt;
+    kind = tt;
   };
 }
 
@@ -138,5 +139,6 @@ edits_refused edits result some e = subst (λ r. Makes plain_files plain_devices
     names = refl;
     entry = record { passed = λ i edit lt. absurd (omega arith); index = some; refused = λ edit is. record { refused = free _ _; comes = tt } };
     cause = refl;
+    kind = λ edit is. refl;
   };
 })

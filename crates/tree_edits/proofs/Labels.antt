@@ -105,7 +105,7 @@ module _ (image : List ℕ) (core : Core) (node : NodeId) (label : List ℕ) whe
       does new e f g w only tree p m =
           let n = the_node image (memory_of core) node.serial row found tree p m in
           let puts : Puts ExtentKind.Node (n.parts.header + 36) 32 (text_field 32 label) image new =
-          subst (λ k. Puts ExtentKind.Node (k + 36) 32 (text_field 32 label) image new) (sym n.at) (record { writes = w; only = record { longer = only.longer; others = only.others; grows = only.grows } }) in
+          subst (λ k. Puts ExtentKind.Node (k + 36) 32 (text_field 32 label) image new) (sym n.at) (record { writes = w; only = record { longer = only.longer; others = only.others; grows = λ b low high. record { byte = (only.grows b low high).byte; own = (only.grows b low high).own; block = (only.grows b low high).block } } }) in
           let whole = label_is_whole core.heap.limit core.writable image new tree (labelled tree node label n.node) p node label n.parts m.laid_out (decided (is_label label) false true true e f refl g tree p m) n.is.stands puts in
           record {
             after = labelled tree node label n.node;
