@@ -8,8 +8,4 @@ mod offset_rules;
 #[cfg(test)]
 mod plain_rules;
 #[cfg(test)]
-mod plain_trees;
-#[cfg(test)]
 mod tables;
-#[cfg(test)]
-mod tree_rules;
