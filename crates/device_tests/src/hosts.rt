@@ -40,6 +40,48 @@ fn a_file_is_made_by_its_first_write_and_read_back(rt: HostRuntime) -> Result<()
     Ok(())
 }
 
+// A write of a block, or a read of it, with its byte.
+#[derive(Clone, Copy, Drop)]
+enum Step {
+    Write(u32, u8),
+    Read(u32, u8),
+}
+
+fn goes<D: Device>(device: &mut D, step: Step) -> bool {
+    match step {
+        Step::Write(n, byte) => writes(device, n, byte),
+        Step::Read(n, byte) => read(device, n) == Some(byte),
+    }
+}
+
+// Blocks behind one another and not, at the end and past it.
+const STEPS: [Step; 13] = [
+    Step::Write(0, 1),
+    Step::Write(1, 2),
+    Step::Read(0, 1),
+    Step::Read(1, 2),
+    Step::Read(2, 0),
+    Step::Read(2, 0),
+    Step::Read(3, 0),
+    Step::Read(1, 2),
+    Step::Write(2, 3),
+    Step::Read(1, 2),
+    Step::Read(2, 3),
+    Step::Write(0, 4),
+    Step::Read(1, 2),
+];
+
+#[test]
+fn blocks_are_read_and_written_in_any_order(rt: HostRuntime) -> Result<(), Fail> {
+    let path = "read_and_written_in_any_order";
+    let mut device = HostDevice::new(rt.clone()?, String::from_str(rt.alloc(), path)?);
+    for step in STEPS {
+        assert!(rt; goes(&mut device, step));
+    }
+    fs::remove_file(&rt, path)?;
+    Ok(())
+}
+
 #[test]
 fn a_path_that_is_no_file_is_a_fault_of_each_call(rt: HostRuntime) -> Result<(), Fail> {
     let mut device = HostDevice::new(rt.clone()?, String::from_str(rt.alloc(), ".")?);

@@ -1,4 +1,4 @@
-//! Tests of devices, sources and sinks, of caches, drafts and pages over them, and of fields read from bytes.
+//! Tests of devices, sources and sinks, of caches, drafts and pages over them, and of fields and nodes read from bytes.
 #![tactic(auto)]
 
 #[cfg(test)]
@@ -9,6 +9,8 @@ mod drafts;
 mod hosts;
 #[cfg(test)]
 mod memory;
+#[cfg(test)]
+mod nodes;
 #[cfg(test)]
 mod plain;
 #[cfg(test)]
