@@ -5,3 +5,4 @@ pub mod Pairs
 pub mod Kinds
 pub mod Rinds
 pub mod NodeRules
+pub mod Fields

@@ -5,8 +5,9 @@ use Rattle.adf_format.specs.declared.types.DataType.TheVariants.{Mt, I4, I8, C1}
 use Rattle.adf_format.specs.Names.{is_same_type, data_size}
 use Rattle.adf_model.specs.Edits.{size_limit}
 use Rattle.sids_views.specs.Nodes.{View}
-use Rattle.sids_rules.specs.Terms.{index_in}
-use Rattle.sids_rules.specs.Rules.{are_point_dims}
+use Rattle.sids_rules.specs.Sections.{fixed_nodes}
+use Rattle.sids_rules.specs.Terms.{index_in, Head, Range, element_count}
+use Rattle.sids_rules.specs.Rules.{are_point_dims, is_count_off, first_dimension}
 
 abbrev pub shows_type : DataType → View → Bool
 shows_type kind view = is_same_type view.kind kind
@@ -42,3 +43,8 @@ shown_index view = if shows_ints view then index_in view.dims else 0
 -- whole numbers with data, so many for each point
 abbrev pub shows_points : ℕ → View → Bool
 shows_points index view = shows_ints view && are_point_dims index view.dims
+
+-- whole numbers of one dimension, as many as the elements of a section want
+abbrev pub shows_connected : Head → Range → View → Bool
+shows_connected head range view =
+    shows_ints view && (length view.dims == 1) && not (is_count_off (fixed_nodes head.code) (element_count range) (first_dimension view.dims))

@@ -2,8 +2,11 @@
 
 #![tactic(auto)]
 
+mod arrays;
 mod bases;
 mod conditions;
+mod connectivities;
+mod dims;
 mod node_rules;
 mod node_tests;
 mod numbers;
@@ -12,8 +15,11 @@ mod sections;
 mod texts;
 mod zones;
 
+pub use arrays::{FieldPlace, breaks_coordinate_size, breaks_field_size};
 pub use bases::{BaseDimensions, base_dimensions};
 pub use conditions::{breaks_bc_family, breaks_bc_points};
+pub use connectivities::breaks_connectivity_size;
+pub use dims::breaks_size;
 pub use node_rules::{
     breaks_array_data, breaks_coordinate_type, breaks_field_type, breaks_not_empty, breaks_place,
     breaks_rind_data, breaks_rind_name, breaks_small_node, breaks_version, breaks_version_data,

@@ -17,7 +17,7 @@ use std::alloc::Global;
 
 /// The planes of the rind that the children of a node tell, low and high of each index: zeros where
 /// there is none.
-fn rind_in<C: TreeCalls>(
+pub(crate) fn rind_in<C: TreeCalls>(
     alloc: Global,
     calls: &mut C,
     index: usize,

@@ -10,7 +10,7 @@ ghost use Rattle.sids_views.specs.Asks.{IsValueOr, HasAskCause, IsPlain};
 ghost use Rattle.sids_tables.specs.declared.labels.LabelKind.TheVariants.{DataArray};
 ghost use Rattle.sids_views.specs.Views.{node_there, of_that_kind, first_called};
 ghost use Rattle.sids_rules.specs.Values.{is_ints, ints_there};
-ghost use Rattle.sids_rules.specs.Terms.{section_head, is_head, section_range, is_range, connectivity_child};
+ghost use Rattle.sids_rules.specs.Terms.{section_head, is_head, section_range, is_range, connectivity_child, element_count};
 ghost use Rattle.sids_broken.specs.Reading.{is_wide};
 ghost use Rattle.sids_broken.specs.Pairs.{ints_with, range_in, range_there};
 
@@ -89,6 +89,14 @@ impl ElementRange {
         ensures { result ≡ self.now.end }
     {
         self.end
+    }
+
+    /// How many elements a good range has.
+    pub fn count(&self) -> u64
+        requires { is_range self.now ≡ true }
+        ensures { result ≡ element_count self.now }
+    {
+        (self.end - self.start).unsigned_abs() + 1
     }
 
     /// Whether it starts at 1 or later, and does not end before its start.
