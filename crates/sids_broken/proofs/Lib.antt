@@ -3,3 +3,5 @@ pub mod TextLaws
 pub mod SmallLaws
 pub mod RindLaws
 pub mod FieldLaws
+pub mod LimitLaws
+pub mod OverlapLaws

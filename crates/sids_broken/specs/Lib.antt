@@ -6,3 +6,6 @@ pub mod Kinds
 pub mod Rinds
 pub mod NodeRules
 pub mod Fields
+pub mod Limits
+pub mod Overlaps
+pub mod OffsetParts

@@ -7,9 +7,12 @@ mod bases;
 mod conditions;
 mod connectivities;
 mod dims;
+mod limits;
 mod node_rules;
 mod node_tests;
 mod numbers;
+mod offset_rules;
+mod overlaps;
 mod rinds;
 mod sections;
 mod texts;
@@ -20,6 +23,7 @@ pub use bases::{BaseDimensions, base_dimensions};
 pub use conditions::{breaks_bc_family, breaks_bc_points};
 pub use connectivities::breaks_connectivity_size;
 pub use dims::breaks_size;
+pub use limits::vertex_limit;
 pub use node_rules::{
     breaks_array_data, breaks_coordinate_type, breaks_field_type, breaks_not_empty, breaks_place,
     breaks_rind_data, breaks_rind_name, breaks_small_node, breaks_version, breaks_version_data,
@@ -27,6 +31,8 @@ pub use node_rules::{
 };
 pub use node_tests::{index_of, is_array, is_filled, is_ints, is_ints_of, is_text, is_type};
 pub use numbers::ints_of;
+pub use offset_rules::{breaks_offset_size, breaks_start_offset, offsets_of, wants_offsets};
+pub use overlaps::breaks_sections_overlap;
 pub use rinds::rind_there;
 pub use sections::{ElementRange, SectionHead, connectivity_of, section_head, section_range};
 pub use texts::{WordList, is_no_word, text_of};

@@ -1,6 +1,6 @@
 //! The numbers of sections of elements, and their children.
 
-ghost use Rattle.std.specs.Prelude.{◌≡◌, ◌≤◌, true, Some, codes};
+ghost use Rattle.std.specs.Prelude.{◌≡◌, ◌≤◌, ◌<◌, ◌^◌, true, Some, codes};
 ghost use Rattle.std.specs.List.{AllByRecursion};
 ghost use Rattle.adf_format.specs.Names.{product};
 ghost use Rattle.adf_model.specs.Edits.{size_of, size_limit};
@@ -94,7 +94,8 @@ impl ElementRange {
     /// How many elements a good range has.
     pub fn count(&self) -> u64
         requires { is_range self.now ≡ true }
-        ensures { result ≡ element_count self.now }
+        ensures value { result ≡ element_count self.now }
+        ensures few { result < 2 ^ 63 }
     {
         (self.end - self.start).unsigned_abs() + 1
     }
