@@ -16,9 +16,9 @@ pub struct Spot {
     pub front: Option<u64>,
 }
 
-/// A gap, and its spot where it is a free chunk. The spot of a filler says nothing.
+/// A gap, and its spot where it is a free chunk of a list.
 #[derive(Clone, Copy)]
 pub struct Slot {
     pub gap: Extent,
-    pub spot: Spot,
+    pub spot: Option<Spot>,
 }

@@ -146,6 +146,7 @@ impl Tree {
     pub fn count_before(&self, place: u64) -> usize
         requires { IsByPlace self.now }
         ensures count { result ≡ count_before place self.now }
+        ensures within { result ≤ length self.now }
         ensures few { result ≤ 2 ^ 62 }
     {
         match &self.node {
