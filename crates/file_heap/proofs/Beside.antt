@@ -13,10 +13,11 @@ use Rattle.adf_format.specs.LaysOut.{ThreadsFreeChunks, IsThreaded, first_place,
 use Rattle.adf_format.proofs.FrameLaws.{field_kept}
 use Rattle.adf_format.proofs.HeapSteps.{cover-append}
 use Rattle.file_heap.specs.Heap.{ChangesOnly, KeepsFillers}
+use Rattle.file_heap.specs.Links.{ThreadsThese, lists_of}
 use Rattle.file_heap.specs.Beside.{AreBeside, ListsStay, EndStays, FillersStay}
 use Rattle.file_heap.proofs.Ranges.{same_cover}
 use Rattle.file_heap.proofs.Threads.{free_within, table_within}
-use Rattle.file_heap.proofs.SpaceLaws.{end_stays}
+use Rattle.file_heap.proofs.SpaceLaws.{end_stays, these_slots}
 
 module _ (ranges : List Extent) (old new : List ℕ) (c : ChangesOnly ranges old new) where
   kept_byte : (b : ℕ) → b < length old → cover ranges b ≡ 0 → slice_get new b ≡ slice_get old b
@@ -34,18 +35,21 @@ module _ (ranges : List Extent) (old new : List ℕ) (c : ChangesOnly ranges old
         threads_stay fs (λ b some. none b (omega (arith, some))) t.1,
       )
 
-  pub lists_stay : (gaps : List Extent) → AreBeside ranges gaps → ThreadsFreeChunks old gaps → ThreadsFreeChunks new gaps
+  pub lists_stay : (gaps : List Extent) → AreBeside ranges gaps → (t : ThreadsFreeChunks old gaps) → ThreadsThese new gaps (lists_of t)
   lists_stay gaps beside t = record {
-    small = t.small;
-    medium = t.medium;
-    large = t.large;
-    table = subst (λ (bytes : List ℕ). SpellsFreeTable bytes ((first_place t.small, last_place t.small) ∷ (first_place t.medium, last_place t.medium) ∷ (first_place t.large, last_place t.large) ∷ [])) (sym same) t.table;
-    each = (
-      threads_stay t.small (λ b some. free b (let s = split b in omega (arith, s, some))) t.each.0,
-      threads_stay t.medium (λ b some. free b (let s = split b in omega (arith, s, some))) t.each.1,
-      threads_stay t.large (λ b some. free b (let s = split b in omega (arith, s, some))) t.each.2,
-    );
-    all = t.all;
+    threads = record {
+      small = t.small;
+      medium = t.medium;
+      large = t.large;
+      table = subst (λ (bytes : List ℕ). SpellsFreeTable bytes ((first_place t.small, last_place t.small) ∷ (first_place t.medium, last_place t.medium) ∷ (first_place t.large, last_place t.large) ∷ [])) (sym same) t.table;
+      each = (
+        threads_stay t.small (λ b some. free b (let s = split b in omega (arith, s, some))) t.each.0,
+        threads_stay t.medium (λ b some. free b (let s = split b in omega (arith, s, some))) t.each.1,
+        threads_stay t.large (λ b some. free b (let s = split b in omega (arith, s, some))) t.each.2,
+      );
+      all = t.all;
+    };
+    are = λ k lt. refl;
   }
     where
       within : 266 ≤ length old
@@ -61,13 +65,13 @@ module _ (ranges : List Extent) (old new : List ℕ) (c : ChangesOnly ranges old
       free b some = beside.chunks b (subst (λ n. 0 < n) (same_cover (t.small ++ t.medium ++ t.large) (filter is_free gaps) t.all b) some)
 
 pub all_lists_stay : ListsStay
-all_lists_stay ranges gaps None None c beside t = tt
-all_lists_stay ranges gaps None (Some new) c beside t = absurd c
-all_lists_stay ranges gaps (Some old) None c beside t = absurd c
-all_lists_stay ranges gaps (Some old) (Some new) c beside t = lists_stay ranges old new c gaps beside t
+all_lists_stay ranges space None None c beside th = tt
+all_lists_stay ranges space None (Some new) c beside th = absurd c
+all_lists_stay ranges space (Some old) None c beside th = absurd c
+all_lists_stay ranges space (Some old) (Some new) c beside th = these_slots new space.heap.gaps space.slots th.threads th.spots (lists_stay ranges old new c space.heap.gaps beside th.threads)
 
 pub ends_stay : EndStays
-ends_stay ranges gaps end old new c none t = end_stays ranges gaps end old new none t c
+ends_stay ranges space end old new c none th = end_stays ranges space.heap.gaps space.slots end old new none th c
 
 pub all_fillers_stay : FillersStay
 all_fillers_stay ranges gaps None None c none = tt

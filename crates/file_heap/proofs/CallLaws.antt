@@ -1,8 +1,10 @@
 -- The calls of a heap, from what their parts answered.
-use Rattle.std.proofs.Common.{◌≡◌, ℕ, sym, ◌∙◌, ap, subst, arith, List, [], ◌∷◌, ◌++◌, filter, ◌+◌, ◌-◌, ◌*◌, ◌<◌, ◌≤◌, ◌^◌, true, false}
+use Rattle.std.proofs.Common.{◌≡◌, ℕ, refl, sym, ◌∙◌, ap, subst, arith, List, [], ◌∷◌, ◌++◌, filter, ◌+◌, ◌-◌, ◌*◌, ◌<◌, ◌≤◌, ◌^◌, true, false}
 use Rattle.std.proofs.lemmas.Bool.Decides.{nat_tests}
-use Rattle.std.specs.Prelude.{Option, None, Result, Ok, Err, OnOk, OnErr, IfOk, IfErr, IfSome, find, nat_lt}
-use Rattle.cg_io.specs.Blocks.{Both}
+use Rattle.std.specs.Prelude.{Option, Some, None, Result, Ok, Err, OnOk, OnErr, IfOk, IfErr, IfSome, find, nat_lt}
+use Rattle.cg_io.specs.Blocks.{Both, ReadsFew}
+use Rattle.cg_io.specs.Device.{DeviceState}
+use Rattle.cg_io.specs.Answers.{IsRefusal, IsUntold}
 use Rattle.adf_model.specs.declared.error.AdfError.{AdfError}
 use Rattle.adf_model.specs.declared.error.AdfError.TheVariants as error
 use Rattle.adf_format.specs.declared.fields.TheConstants.{HEADER_END}
@@ -10,14 +12,16 @@ use Rattle.adf_format.specs.declared.types.Extent.{Extent}
 use Rattle.adf_format.specs.declared.types.ExtentKind.{ExtentKind}
 use Rattle.adf_format.specs.Tiles.{cover, holds_byte, is_free, MeetsNone}
 use Rattle.adf_format.specs.Placement.{Heap, extent}
-use Rattle.adf_format.specs.LaysOut.{ThreadsFreeChunks}
+use Rattle.gap_tree.specs.declared.slot.Slot.{Slot}
+use Rattle.gap_tree.specs.Slots.{gaps_of}
 use Rattle.adf_format.specs.Changes.{heap_fields}
 use Rattle.adf_format.specs.HeapRule.{cut, is_fit, heap_take, give_joined, pairs}
 use Rattle.adf_format.proofs.CountLaws.{none_holds}
 use Rattle.adf_format.proofs.HeapLaws.{in_range, cover-give_joined}
 use Rattle.adf_format.proofs.HeapSteps.{take_tiles, give_tiles, take_keeps_order, give_keeps_order}
 use Rattle.file_heap.specs.Gaps.{IsFirstFit, gap_at}
-use Rattle.file_heap.specs.Heap.{IsHeap, TakesBy, TakesOfTiles, TakesCover, IsTakenWithin, GivesToTiles, GivesCover, Grows, IsRefusal, ChangesOnly, MovesEnd, KeepsThreads, KeepsFillers}
+use Rattle.file_heap.specs.Heap.{FreeSpace, HeapState, space_of, IsHeap, TakesBy, TakesOfTiles, TakesCover, IsTakenWithin, IsTakeRefusal, GivesToTiles, GivesCover, Grows, ChangesHeap, ChangesOnly, MovesEnd, KeepsThreads, KeepsFillers}
+use Rattle.file_heap.specs.Slots.{AreFirst, BecomeSlots, ThreadsSlots}
 use Rattle.file_heap.specs.Links.{AreGaps, range, free_table, end_pointer}
 use Rattle.file_heap.proofs.Ranges.{cover_kinds}
 use Rattle.file_heap.proofs.ChangeLaws.{IsWithin, widened}
@@ -29,6 +33,9 @@ use Rattle.file_heap.proofs.SpaceLaws.{kept_threads, end_stays, fillers_stay}
 
 abbrev pub heap_of : List Extent → ℕ → Heap
 heap_of gaps end = record { gaps = gaps; end = end }
+
+pub gaps_are : (gaps : List Extent) (end : ℕ) (slots : List Slot) → IsHeap (heap_of gaps end) → gaps_of slots ≡ gaps → AreGaps (gaps_of slots)
+gaps_are gaps end slots h e = subst AreGaps (sym e) (heap_gaps (heap_of gaps end) h)
 
 -- ---- behind the end
 
@@ -58,9 +65,6 @@ grown_heap limit n gaps end new (Err other) most g h = subst (λ e. IsHeap (heap
 pub takes_of_tiles : (limit n : ℕ) (old new : Heap) (r : Result ℕ AdfError) → TakesBy limit n old r new → IfOk r (TakesOfTiles n old new)
 takes_of_tiles limit n old new (Ok place) t = λ kind used tiles. take_tiles limit n old place new kind used t tiles
 takes_of_tiles limit n old new (Err e) t = tt
-
-pub grown_lists : {T : Type 0} (r : Result T AdfError) (heap : Heap) (old new : Option (List ℕ)) → IsHeap heap → OnOk r (Both KeepsThreads old new) → IfSome old (λ bytes. ThreadsFreeChunks bytes heap.gaps) → OnOk r (IfSome new (λ bytes. ThreadsFreeChunks bytes heap.gaps))
-grown_lists r heap old new h k t = on_ok r (λ keeps. kept_threads heap.gaps old new (gaps_apart heap.gaps (heap_gaps heap h)) keeps t) k
 
 end_range : (b : ℕ) → 266 ≤ b → cover (end_pointer ∷ []) b ≡ 0
 end_range b le = grind (arith, nat_tests)
@@ -109,10 +113,6 @@ frees_behind : (gaps : List Extent) → AreGaps gaps → MeetsNone HEADER_END.of
 frees_behind gaps g b low high =
     let off = not_table b high in let z = (gaps_apart gaps g).low b (omega (arith, high)) in let k = cover_kinds b gaps in rw off (omega (arith, z, k))
 
-pub cut_end : {T : Type 0} (r : Result T AdfError) (heap : Heap) (old new : Option (List ℕ)) → IsHeap heap → IfSome old (λ bytes. ThreadsFreeChunks bytes heap.gaps) → Both (ChangesOnly (free_table ∷ filter is_free heap.gaps)) old new → OnOk r (Both (MovesEnd heap.end heap.end) old new)
-cut_end (Ok x) heap old new h t c = end_stays (free_table ∷ filter is_free heap.gaps) heap.gaps heap.end old new (frees_behind heap.gaps (heap_gaps heap h)) t c
-cut_end (Err e) heap old new h t c = tt
-
 -- ---- a gift
 
 pub given_heap : (place n : ℕ) (gaps new : List Extent) (end : ℕ) (r : Result (Unit {0}) AdfError) → 1 ≤ n → MeetsNone place n gaps → 266 ≤ place → place + n ≤ end + 1 → OnOk r (new ≡ give_joined place n gaps) → OnErr r (new ≡ gaps) → IsHeap (heap_of gaps end) → IsHeap (heap_of new end)
@@ -130,17 +130,6 @@ given_covers place n gaps new end (Err e) is = tt
 pub given_pairs : (place n : ℕ) (gaps new : List Extent) (end : ℕ) (r : Result (Unit {0}) AdfError) → 1 ≤ n → MeetsNone place n gaps → OnOk r (new ≡ give_joined place n gaps) → OnErr r (new ≡ gaps) → IsHeap (heap_of gaps end) → pairs new ≤ pairs gaps
 given_pairs place n gaps new end (Ok x) some none is stays h = subst (λ xs. pairs xs ≤ pairs gaps) (sym is) (give_keeps_order place n (heap_of gaps end) some h.order none).1
 given_pairs place n gaps new end (Err e) some none is stays h = subst (λ xs. pairs xs ≤ pairs gaps) (sym stays) (omega arith)
-
-range_behind : (place n b : ℕ) → 266 ≤ place → b < 158 → holds_byte (range place n) b ≡ false
-range_behind place n b low lt = grind (arith, nat_tests)
-
-pub given_end : {T : Type 0} (r : Result T AdfError) (heap : Heap) (place n : ℕ) (old new : Option (List ℕ)) → 266 ≤ place → IsHeap heap → IfSome old (λ bytes. ThreadsFreeChunks bytes heap.gaps) → Both (ChangesOnly (free_table ∷ range place n ∷ heap.gaps)) old new
-    → OnOk r (Both (MovesEnd heap.end heap.end) old new)
-given_end (Ok x) heap place n old new behind h t c =
-    end_stays (free_table ∷ range place n ∷ heap.gaps) heap.gaps heap.end old new
-    (λ b low high.
-    let off = not_table b high in let out = range_behind place n b behind high in let z = (gaps_apart heap.gaps (heap_gaps heap h)).low b (omega (arith, high)) in rw (off, out) (omega (arith, z))) t c
-given_end (Err e) heap place n old new behind h t c = tt
 
 pub given_changes : (place n : ℕ) (gaps : List Extent) (old new : Option (List ℕ)) → Both (ChangesOnly (free_table ∷ range place n ∷ gaps)) old new → Both (ChangesOnly (heap_fields ++ range place n ∷ gaps)) old new
 given_changes place n gaps old new c =
@@ -164,3 +153,134 @@ takes_cover limit n old new (Ok place) t = λ b. taken_covers limit n old new pl
     plain : (x y : ℕ) → x + y ≡ y + x
     plain x y = omega arith
 takes_cover limit n old new (Err e) t = tt
+
+-- ---- what the calls leave
+
+reads_more : (n m : ℕ) (a b : DeviceState) → n ≤ m → ReadsFew n a b → ReadsFew m a b
+reads_more n m a b le r = record { held = r.held; lost = r.lost; writes = r.writes; reads = r.reads; few = (let f = r.few in omega (arith, le, f)); faults = r.faults }
+
+take_refused : {T : Type 0} (P : Type 0) (a b : ℕ) (r : Result T AdfError) → IfErr r (IsRefusal P a b) → IfErr r (IsTakeRefusal P a b)
+take_refused P a b (Ok x) h = h
+take_refused P a b (Err (error.Full asked end)) h = absurd h
+take_refused P a b (Err other) h = h
+
+abbrev pub state_of : List Slot → ℕ → FreeSpace → ℕ → HeapState
+state_of slots end kept limit = record { work = space_of slots end; kept = kept; limit = limit }
+
+none_first : (gaps : List Extent) (image : Option (List ℕ)) → IfSome image (AreFirst gaps gaps)
+none_first gaps None = tt
+none_first gaps (Some bytes) = λ place n lt. absurd (omega (arith, lt))
+
+module _ {S : Type 0} (is_sound : S → Type 0) (image : S → Option (List ℕ)) (state : S → DeviceState) (waiting : S → ℕ) (slots : List Slot) (end : ℕ) (kept : FreeSpace) (limit : ℕ) (old new : S) (h : IsHeap (heap_of (gaps_of slots) end)) (sound : is_sound new)
+    (th : IfSome (image old) (ThreadsSlots (gaps_of slots) slots)) where
+  -- a take behind the end
+  pub grown_leaves : (n last : ℕ) (r : Result ℕ AdfError) → limit ≤ 2 ^ 32 → Grows limit n end r last → OnOk r (Both KeepsThreads (image old) (image new)) → Both (ChangesOnly (end_pointer ∷ [])) (image old) (image new)
+      → OnOk r (Both (MovesEnd end last) (image old) (image new)) → ReadsFew 2 (state old) (state new) → waiting new ≤ waiting old + 1 → IfErr r (IsTakeRefusal (IsUntold (image old)) (state old).faults (state new).faults)
+      → ChangesHeap is_sound image state waiting [] 9 (IsTakeRefusal (IsUntold (image old))) (state_of slots end kept limit) (state_of slots last kept limit) old new r
+  grown_leaves n last r most grows keeps c moves effect waits cause = record {
+    kept = refl;
+    limit = refl;
+    refused = refusal r grows;
+    heap = grown_heap limit n (gaps_of slots) end last r most grows h;
+    pairs = omega arith;
+    threads = on_ok r (λ k. kept_threads (gaps_of slots) slots (image old) (image new) (gaps_apart (gaps_of slots) (heap_gaps (heap_of (gaps_of slots) end) h)) k th) keeps;
+    first = on_ok r (λ k. none_first (gaps_of slots) (image new)) keeps;
+    bytes = grown_changes (gaps_of slots) (image old) (image new) c;
+    end = moves;
+    fillers = grown_fillers r (heap_of (gaps_of slots) end) (image old) (image new) h c;
+    calls = record { sound = sound; waits = omega (arith, waits); effect = reads_more 2 64 (state old) (state new) (omega arith) effect; cause = cause };
+  }
+    where
+      refusal : (r : Result ℕ AdfError) → Grows limit n end r last → OnErr r (space_of slots last ≡ space_of slots end)
+      refusal (Ok place) g = tt
+      refusal (Err (error.Full asked at)) g = ap (space_of slots) g.3
+      refusal (Err other) g = ap (space_of slots) g.1
+
+  -- other gaps in place of those that were there
+  pub others_leave : {T : Type 0} (r : Result T AdfError) (becomes : List Extent) (after : List Slot) (given : List Extent) (n most : ℕ) (Cause : ℕ → ℕ → AdfError → Type 0) → OnOk r (BecomeSlots becomes slots after (image old) (image new)) → OnErr r (after ≡ slots)
+      → IsHeap (heap_of (gaps_of after) end) → pairs (gaps_of after) ≤ pairs (gaps_of slots) → IsWithin (free_table ∷ given ++ gaps_of slots) (heap_fields ++ given ++ gaps_of slots) → MeetsNone HEADER_END.offset HEADER_END.length (free_table ∷ given ++ gaps_of slots)
+      → Both (ChangesOnly (free_table ∷ given ++ gaps_of slots)) (image old) (image new) → n ≤ 64 → ReadsFew n (state old) (state new) → waiting new ≤ waiting old + most → IfErr r (Cause (state old).faults (state new).faults)
+      → ChangesHeap is_sound image state waiting given most Cause (state_of slots end kept limit) (state_of after end kept limit) old new r
+  others_leave r becomes after given n most Cause b stays heap fewer within apart c few effect waits cause = record {
+    kept = refl;
+    limit = refl;
+    refused = refusal r stays;
+    heap = heap;
+    pairs = fewer;
+    threads = on_ok r (λ w. w.threads) b;
+    first = on_ok r (λ w. subst (λ gs. IfSome (image new) (AreFirst (gaps_of slots) gs)) (sym w.are) w.first) b;
+    bytes = widened (free_table ∷ given ++ gaps_of slots) (heap_fields ++ given ++ gaps_of slots) (image old) (image new) within c;
+    end = on_ok r (λ w. end_stays (free_table ∷ given ++ gaps_of slots) (gaps_of slots) slots end (image old) (image new) apart th c) b;
+    fillers = on_ok r (λ w. subst (λ gs. Both (KeepsFillers (gaps_of slots) gs) (image old) (image new)) (sym w.are) w.fillers) b;
+    calls = record { sound = sound; waits = waits; effect = reads_more n 64 (state old) (state new) few effect; cause = cause };
+  }
+    where
+      refusal : {T : Type 0} (r : Result T AdfError) → OnErr r (after ≡ slots) → OnErr r (space_of after end ≡ space_of slots end)
+      refusal (Ok x) s = tt
+      refusal (Err e) s = ap (λ ss. space_of ss end) s
+
+-- gaps and what is given lie behind the end pointer
+fields_hold : (given gaps : List Extent) → IsWithin (free_table ∷ given ++ gaps) (heap_fields ++ given ++ gaps)
+fields_hold given gaps b none = (none_holds (extent ExtentKind.Header HEADER_END.offset HEADER_END.length) (free_table ∷ given ++ gaps) b none).1
+
+not_range : (place n b : ℕ) → 266 ≤ place → b < 158 → holds_byte (range place n) b ≡ false
+not_range place n b low lt = grind (arith, nat_tests)
+
+gaps_behind : (gaps : List Extent) → AreGaps gaps → MeetsNone HEADER_END.offset HEADER_END.length (free_table ∷ gaps)
+gaps_behind gaps g b low high = let off = not_table b high in let z = (gaps_apart gaps g).low b (omega (arith, high)) in rw off (omega (arith, z))
+
+given_behind : (place n : ℕ) (gaps : List Extent) → 266 ≤ place → AreGaps gaps → MeetsNone HEADER_END.offset HEADER_END.length (free_table ∷ range place n ∷ gaps)
+given_behind place n gaps from g b low high =
+    let off = not_table b high in let out = not_range place n b from high in let z = (gaps_apart gaps g).low b (omega (arith, high)) in rw (off, out) (omega (arith, z))
+
+chunks_of_gaps : (gaps : List Extent) → IsWithin (free_table ∷ filter is_free gaps) (free_table ∷ gaps)
+chunks_of_gaps gaps b none =
+    let n = none_holds free_table gaps b none in let off : holds_byte free_table b ≡ false = n.0 in let z : cover gaps b ≡ 0 = n.1 in let k = cover_kinds b gaps in rw off (omega (arith, z, k))
+
+becomes_are : {T : Type 0} (r : Result T AdfError) (becomes : List Extent) (slots after : List Slot) (a b : Option (List ℕ)) → OnOk r (BecomeSlots becomes slots after a b) → OnOk r (gaps_of after ≡ becomes)
+becomes_are r becomes slots after a b h = on_ok r (λ w. w.are) h
+
+stays_gaps : {T : Type 0} (r : Result T AdfError) (slots after : List Slot) → OnErr r (after ≡ slots) → OnErr r (gaps_of after ≡ gaps_of slots)
+stays_gaps (Ok x) slots after s = tt
+stays_gaps (Err e) slots after s = ap gaps_of s
+
+-- a take from a free chunk
+module _ (n i limit end : ℕ) (slots after : List Slot) (a b : Option (List ℕ)) (r : Result ℕ AdfError) (fit : IsFirstFit n (gaps_of slots) i) (at : IfOk r (λ place. place ≡ (gap_at (gaps_of slots) i).place)) (w : OnOk r (BecomeSlots (cut n (gaps_of slots)) slots after a b))
+    (stays : OnErr r (after ≡ slots)) where
+  pub taken_takes : (before now : ℕ) (P : Type 0) → IfErr r (IsRefusal P before now) → TakesBy limit n (heap_of (gaps_of slots) end) r (heap_of (gaps_of after) end)
+  taken_takes before now P cause =
+      cut_takes limit n (gaps_of slots) (gaps_of after) end i before now P r fit at (becomes_are r (cut n (gaps_of slots)) slots after a b w) (stays_gaps r slots after stays) cause
+
+  pub taken_heap : 1 ≤ n → IsHeap (heap_of (gaps_of slots) end) → IsHeap (heap_of (gaps_of after) end)
+  taken_heap some h = cut_heap n (gaps_of slots) (gaps_of after) end i r some fit (becomes_are r (cut n (gaps_of slots)) slots after a b w) (stays_gaps r slots after stays) h
+
+pub taken_leaves : {S : Type 0} (is_sound : S → Type 0) (image : S → Option (List ℕ)) (state : S → DeviceState) (waiting : S → ℕ) (slots after : List Slot) (end : ℕ) (kept : FreeSpace) (limit n i : ℕ) (old new : S) (r : Result ℕ AdfError) → 1 ≤ n
+    → IsHeap (heap_of (gaps_of slots) end) → is_sound new → IfSome (image old) (ThreadsSlots (gaps_of slots) slots) → IsFirstFit n (gaps_of slots) i → IfOk r (λ place. place ≡ (gap_at (gaps_of slots) i).place)
+    → OnOk r (BecomeSlots (cut n (gaps_of slots)) slots after (image old) (image new)) → OnErr r (after ≡ slots) → Both (ChangesOnly (free_table ∷ filter is_free (gaps_of slots))) (image old) (image new) → ReadsFew 16 (state old) (state new)
+    → waiting new ≤ waiting old + 9 → IfErr r (IsRefusal (IsUntold (image old)) (state old).faults (state new).faults)
+    → ChangesHeap is_sound image state waiting [] 9 (IsTakeRefusal (IsUntold (image old))) (state_of slots end kept limit) (state_of after end kept limit) old new r
+taken_leaves is_sound image state waiting slots after end kept limit n i old new r some h sound th fit at w stays c effect waits cause =
+    others_leave is_sound image state waiting slots end kept limit old new h sound th r (cut n (gaps_of slots)) after [] 16 9 (IsTakeRefusal (IsUntold (image old))) w stays
+    (taken_heap n i limit end slots after (image old) (image new) r fit at w stays some h)
+    (taken_pairs limit n (heap_of (gaps_of slots) end) (heap_of (gaps_of after) end) r some h (taken_takes n i limit end slots after (image old) (image new) r fit at w stays (state old).faults (state new).faults (IsUntold (image old)) cause))
+    (fields_hold [] (gaps_of slots)) (gaps_behind (gaps_of slots) (heap_gaps (heap_of (gaps_of slots) end) h))
+    (widened (free_table ∷ filter is_free (gaps_of slots)) (free_table ∷ gaps_of slots) (image old) (image new) (chunks_of_gaps (gaps_of slots)) c) (omega arith) effect waits
+    (take_refused (IsUntold (image old)) (state old).faults (state new).faults r cause)
+
+-- a gift
+module _ (place n end : ℕ) (slots after : List Slot) (a b : Option (List ℕ)) (r : Result (Unit {0}) AdfError) (w : OnOk r (BecomeSlots (give_joined place n (gaps_of slots)) slots after a b)) (stays : OnErr r (after ≡ slots)) where
+  pub gift_is : OnOk r (gaps_of after ≡ give_joined place n (gaps_of slots))
+  gift_is = becomes_are r (give_joined place n (gaps_of slots)) slots after a b w
+
+  pub gift_heap : 1 ≤ n → MeetsNone place n (gaps_of slots) → 266 ≤ place → place + n ≤ end + 1 → IsHeap (heap_of (gaps_of slots) end) → IsHeap (heap_of (gaps_of after) end)
+  gift_heap some none low high h = given_heap place n (gaps_of slots) (gaps_of after) end r some none low high gift_is (stays_gaps r slots after stays) h
+
+pub given_leaves : {S : Type 0} (is_sound : S → Type 0) (image : S → Option (List ℕ)) (state : S → DeviceState) (waiting : S → ℕ) (slots after : List Slot) (end : ℕ) (kept : FreeSpace) (limit place n : ℕ) (old new : S) (r : Result (Unit {0}) AdfError) → 1 ≤ n → MeetsNone place n (gaps_of slots)
+    → 266 ≤ place → place + n ≤ end + 1 → IsHeap (heap_of (gaps_of slots) end) → is_sound new → IfSome (image old) (ThreadsSlots (gaps_of slots) slots) → OnOk r (BecomeSlots (give_joined place n (gaps_of slots)) slots after (image old) (image new)) → OnErr r (after ≡ slots)
+    → Both (ChangesOnly (free_table ∷ range place n ∷ gaps_of slots)) (image old) (image new) → ReadsFew 22 (state old) (state new) → waiting new ≤ waiting old + 12 → IfErr r (IsRefusal (IsUntold (image old)) (state old).faults (state new).faults)
+    → ChangesHeap is_sound image state waiting (range place n ∷ []) 12 (IsRefusal (IsUntold (image old))) (state_of slots end kept limit) (state_of after end kept limit) old new r
+given_leaves is_sound image state waiting slots after end kept limit place n old new r some none low high h sound th w stays c effect waits cause =
+    others_leave is_sound image state waiting slots end kept limit old new h sound th r (give_joined place n (gaps_of slots)) after (range place n ∷ []) 22 12 (IsRefusal (IsUntold (image old))) w stays
+    (gift_heap place n end slots after (image old) (image new) r w stays some none low high h)
+    (given_pairs place n (gaps_of slots) (gaps_of after) end r some none (gift_is place n end slots after (image old) (image new) r w stays) (stays_gaps r slots after stays) h)
+    (fields_hold (range place n ∷ []) (gaps_of slots)) (given_behind place n (gaps_of slots) low (heap_gaps (heap_of (gaps_of slots) end) h)) c (omega arith) effect waits cause

@@ -12,10 +12,9 @@ use Rattle.adf_format.proofs.ReachedLaws.{still_changes, more_changes, later_cha
 use Rattle.adf_format.proofs.HeapLaws.{in_range}
 use Rattle.adf_format.proofs.CountLaws.{none_holds}
 use Rattle.file_heap.specs.Heap.{ChangesOnly}
-use Rattle.file_heap.specs.Links.{AreApart, IsSpotOf, EndsList, link_at, link_range, list_of, range, free_table}
-use Rattle.file_heap.specs.declared.lists.Spot.{Spot}
+use Rattle.file_heap.specs.Links.{AreApart, IsBehind, EndsList, link_at, link_range, list_of, lists_of, range, free_table}
 use Rattle.file_heap.proofs.Ranges.{flat, cover_in, cover_without, same_cover}
-use Rattle.file_heap.proofs.WalkLaws.{EndsWith, ends_with, lists_of, list_is, same_ranges, chunk_stands}
+use Rattle.file_heap.proofs.ListLaws.{EndsWith, ends_with, list_is, same_ranges, chunk_stands}
 
 -- what lies in none of the one ranges lies in none of the others
 abbrev pub IsWithin : List Extent → List Extent → Type 0
@@ -69,8 +68,8 @@ ends_same k next last (Some bytes) = refl
 
 -- ---- the pointer behind a chunk is one of a free chunk's bytes
 
-spot_within : (bytes : List ℕ) (gaps : List Extent) (t : ThreadsFreeChunks bytes gaps) (place : ℕ) (spot : Spot) → AreApart gaps → spot.list < 3 → IsSpotOf t place spot → IsWithin (free_table ∷ link_range spot.front) (free_table ∷ filter is_free gaps)
-spot_within bytes gaps t place spot apart few at b none = by_front spot.front at.follows
+pub spot_within : (bytes : List ℕ) (gaps : List Extent) (t : ThreadsFreeChunks bytes gaps) (place k : ℕ) (front : Option ℕ) → AreApart gaps → k < 3 → IsBehind (list_of t k) place front → IsWithin (free_table ∷ link_range front) (free_table ∷ filter is_free gaps)
+spot_within bytes gaps t place k front apart few at b none = by_front front at.follows
   where
     table : holds_byte free_table b ≡ false
     table = (none_holds free_table (filter is_free gaps) b none).0
@@ -82,16 +81,16 @@ spot_within bytes gaps t place spot apart few at b none = by_front spot.front at
         w : EndsWith at.before f
         w = ends_with at.before f e
 
-        whole : list_of t spot.list ≡ w.before ++ w.chunk ∷ at.chunk ∷ at.after
+        whole : list_of t k ≡ w.before ++ w.chunk ∷ at.chunk ∷ at.after
         whole = at.is ∙ ap (λ xs. xs ++ at.chunk ∷ at.after) w.is ∙ append_assoc w.before (w.chunk ∷ []) (at.chunk ∷ at.after)
 
         long : 32 ≤ w.chunk.length
-        long = (chunk_stands bytes gaps t apart spot.list w.before w.chunk (at.chunk ∷ at.after) few whole).2
+        long = (chunk_stands bytes gaps t apart k w.before w.chunk (at.chunk ∷ at.after) few whole).2
 
         none_held : (v : ℕ) → v ≡ in_range w.chunk.place w.chunk.length b → v ≡ 0
         none_held v h =
-            let c : cover (list_of t spot.list) b ≡ in_range w.chunk.place w.chunk.length b + cover (w.before ++ at.chunk ∷ at.after) b = ap (λ xs. cover xs b) whole ∙ cover_without b w.before w.chunk (at.chunk ∷ at.after) in
-            let l = cover_in b (lists_of t) spot.list (list_of t spot.list) (list_is bytes gaps t spot.list few) in
+            let c : cover (list_of t k) b ≡ in_range w.chunk.place w.chunk.length b + cover (w.before ++ at.chunk ∷ at.after) b = ap (λ xs. cover xs b) whole ∙ cover_without b w.before w.chunk (at.chunk ∷ at.after) in
+            let l = cover_in b (lists_of t) k (list_of t k) (list_is bytes gaps t k few) in
             let s = same_cover (flat (lists_of t)) (filter is_free gaps) (same_ranges bytes gaps t) b in
             let z : cover (filter is_free gaps) b ≡ 0 = (none_holds free_table (filter is_free gaps) b none).1 in
             omega (arith, h, c, l, s, z)
@@ -101,13 +100,3 @@ spot_within bytes gaps t place spot apart few at b none = by_front spot.front at
 
         out : holds_byte (range (f + 16) 12) b ≡ false
         out = out_of (f + 16) 12 w.chunk.place w.chunk.length b (let h = w.here in omega (arith, h)) (let h = w.here in omega (arith, h, long)) off
-
-pub spot_changed : (old new : Option (List ℕ)) (gaps : List Extent) (place : ℕ) (spot : Spot) → AreApart gaps → spot.list < 3 → IfSome old (λ bytes. ThreadsFreeChunks bytes gaps) → IfSome old (λ bytes. (t : ThreadsFreeChunks bytes gaps) → IsSpotOf t place spot)
-    → Both (ChangesOnly (free_table ∷ link_range spot.front)) old new → Both (ChangesOnly (free_table ∷ filter is_free gaps)) old new
-spot_changed None None gaps place spot apart few threads at c = tt
-spot_changed None (Some new) gaps place spot apart few threads at c = c
-spot_changed (Some old) new gaps place spot apart few t at c = widened (free_table ∷ link_range spot.front) (free_table ∷ filter is_free gaps) (Some old) new (spot_within old gaps t place spot apart few (at t)) c
-
-pub unlink_changed : (entry read new : Option (List ℕ)) (gaps : List Extent) (place : ℕ) (spot : Spot) → read ≡ entry → AreApart gaps → spot.list < 3 → IfSome entry (λ bytes. ThreadsFreeChunks bytes gaps) → IfSome entry (λ bytes. (t : ThreadsFreeChunks bytes gaps) → IsSpotOf t place spot)
-    → Both (ChangesOnly (free_table ∷ link_range spot.front)) read new → Both (ChangesOnly (free_table ∷ filter is_free gaps)) entry new
-unlink_changed entry read new gaps place spot e apart few threads at c = spot_changed entry new gaps place spot apart few threads at (subst (λ image. Both (ChangesOnly (free_table ∷ link_range spot.front)) image new) e c)

@@ -29,22 +29,6 @@ first_fit n (suc i) (h ∷ gs) lt fits none =
     let r : IsFirstFit n gs i = first_fit n i gs (omega (arith, lt)) fits (next_none n i h gs none) in
     record { within = lt; free = r.free; fits = r.fits; first = rw off r.first; left = rw (off, add-one) (ap (λ xs. h ∷ xs) (rw add-one at r.left)) }
 
-pub none_fits : (n : ℕ) (gaps : List Extent) → NoneBefore n gaps (length gaps) → find (is_fit n) gaps ≡ None
-none_fits n [] none = refl
-none_fits n (h ∷ gs) none =
-    let off : is_fit n h ≡ false = none 0 (omega arith) in rw off (none_fits n gs (next_none n (length gs) h gs none))
-
-pub one_more : (n k : ℕ) (gaps : List Extent) → NoneBefore n gaps k → is_fit n (gap_at gaps k) ≡ false → NoneBefore n gaps (k + 1)
-one_more n k gaps none off j lt = elim (cases_eq j k) [ inl e ↦ subst (λ (x : ℕ). is_fit n (gap_at gaps x) ≡ false) (sym e) off | inr ne ↦ none j (omega (arith, lt, ne)) ]
-
-pub get_within : (gaps : List Extent) (i : ℕ) (x : Extent) → i < length gaps → x ≡ get_or gaps i x → x ≡ gap_at gaps i
-get_within gaps i x lt e = e ∙ other gaps i x no_gap lt
-  where
-    other : (gs : List Extent) (i : ℕ) (x y : Extent) → i < length gs → get_or gs i x ≡ get_or gs i y
-    other [] i x y lt = absurd (omega (arith, lt))
-    other (g ∷ gs) zero x y lt = refl
-    other (g ∷ gs) (suc i) x y lt = other gs i x y (omega (arith, lt))
-
 -- ---- two gaps in a row
 
 -- nothing behind the last gap is joined with it

@@ -36,9 +36,3 @@ pub long_at : (gaps : List Extent) (i : ℕ) → i < length gaps → AreGapsInOr
 long_at [] i lt order = absurd (omega (arith, lt))
 long_at (g ∷ gs) zero lt order = order.0.0
 long_at (g ∷ gs) (suc i) lt order = long_at gs i (omega (arith, lt)) order.2
-
-pub one_more_beside : (gaps : List Extent) (i place n : ℕ) → AreBesideBefore place n gaps i → IsBesideGap place n (gap_at gaps i) → AreBesideBefore place n gaps (i + 1)
-one_more_beside gaps i place n before here j lt = elim (cases_lt j i) [
-  | inl low ↦ before j low
-  | inr high ↦ (let e : i ≡ j = omega (arith, high, lt) in subst (λ k. IsBesideGap place n (gap_at gaps k)) e here)
-]

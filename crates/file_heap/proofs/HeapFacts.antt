@@ -67,6 +67,15 @@ gaps_short gaps g = go gaps g.within
     go (g ∷ gs) w zero lt = w.0.1
     go (g ∷ gs) w (suc k) lt = go gs w.1 k (omega (arith, lt))
 
+-- each gap lies behind the free table
+pub gap_low : (gaps : List Extent) (i : ℕ) → AreGaps gaps → i < length gaps → 266 ≤ (gap_at gaps i).place
+gap_low gaps i g lt = go gaps g.within i lt
+  where
+    go : (gs : List Extent) → AllByRecursion (λ (g : Extent). (266 ≤ g.place) × (end_of g ≤ 2 ^ 44)) gs → (k : ℕ) → k < length gs → 266 ≤ (gap_at gs k).place
+    go [] w k lt = absurd (omega (arith, lt))
+    go (g ∷ gs) w zero lt = w.0.0
+    go (g ∷ gs) w (suc k) lt = go gs w.1 k (omega (arith, lt))
+
 pub heap_gaps : (heap : Heap) → IsHeap heap → AreGaps heap.gaps
 heap_gaps heap h = record { order = h.order; within = go heap.gaps h.within }
   where
@@ -261,6 +270,20 @@ filler_removed (suc i) (g ∷ gs) b = by_test (filler_removed i gs b) (is_filler
   where
     by_test : cover (filter is_filler (remove gs i)) b ≤ cover (filter is_filler gs) b → (t : Bool)
         → cover (cond t (g ∷ filter is_filler (remove gs i)) (filter is_filler (remove gs i))) b ≤ cover (cond t (g ∷ filter is_filler gs) (filter is_filler gs)) b
+    by_test le true = omega (arith, le)
+    by_test le false = omega (arith, le)
+
+pub free_removed : (q m i : ℕ) (gaps : List Extent) → count_of q m (filter is_free (remove gaps i)) ≤ count_of q m (filter is_free gaps)
+free_removed q m zero [] = omega arith
+free_removed q m (suc i) [] = omega arith
+free_removed q m zero (g ∷ gs) = by_test (is_free g)
+  where
+    by_test : (t : Bool) → count_of q m (filter is_free gs) ≤ count_of q m (cond t (g ∷ filter is_free gs) (filter is_free gs))
+    by_test true = omega arith
+    by_test false = omega arith
+free_removed q m (suc i) (g ∷ gs) = by_test (free_removed q m i gs) (is_free g)
+  where
+    by_test : count_of q m (filter is_free (remove gs i)) ≤ count_of q m (filter is_free gs) → (t : Bool) → count_of q m (cond t (g ∷ filter is_free (remove gs i)) (filter is_free (remove gs i))) ≤ count_of q m (cond t (g ∷ filter is_free gs) (filter is_free gs))
     by_test le true = omega (arith, le)
     by_test le false = omega (arith, le)
 

@@ -13,12 +13,6 @@ use Rattle.file_heap.specs.Gaps.{NoneEnds, NoneBegins, gap_at, put_by_place, giv
 use Rattle.file_heap.specs.Links.{AreGaps}
 use Rattle.file_heap.proofs.GiveTests.{meets_at}
 
-pub one_more_end : (place k : ℕ) (gaps : List Extent) → NoneEnds place gaps k → (end_of (gap_at gaps k) ≡ place → ⊥) → NoneEnds place gaps (k + 1)
-one_more_end place k gaps before here j lt = elim (cases_eq j k) [ inl e ↦ subst (λ (x : ℕ). end_of (gap_at gaps x) ≡ place → ⊥) (sym e) here | inr ne ↦ before j (omega (arith, lt, ne)) ]
-
-pub one_more_begin : (place k : ℕ) (gaps : List Extent) → NoneBegins place gaps k → ((gap_at gaps k).place ≡ place → ⊥) → NoneBegins place gaps (k + 1)
-one_more_begin place k gaps before here j lt = elim (cases_eq j k) [ inl e ↦ subst (λ (x : ℕ). (gap_at gaps x).place ≡ place → ⊥) (sym e) here | inr ne ↦ before j (omega (arith, lt, ne)) ]
-
 -- ---- the gaps without one of them
 
 pub cover_removed_gap : (gaps : List Extent) (i b : ℕ) → i < length gaps → cover gaps b ≡ in_range (gap_at gaps i).place (gap_at gaps i).length b + cover (remove gaps i) b
@@ -78,7 +72,7 @@ more a b le = grind (arith, nat_tests)
 -- ---- what stands behind the first
 
 -- each of the gaps behind one begins at its end or later, and has a byte
-behind : (g : Extent) (gs : List Extent) (j : ℕ) → StandsBefore g gs → AreGapsInOrder gs → j < length gs → (end_of g ≤ (gap_at gs j).place) × (0 < (gap_at gs j).length)
+pub behind : (g : Extent) (gs : List Extent) (j : ℕ) → StandsBefore g gs → AreGapsInOrder gs → j < length gs → (end_of g ≤ (gap_at gs j).place) × (0 < (gap_at gs j).length)
 behind g [] j s o lt = absurd (omega (arith, lt))
 behind g (h ∷ hs) zero s o lt = (s.0, o.0.0)
 behind g (h ∷ hs) (suc j) s o lt =

@@ -1,5 +1,5 @@
 -- A free chunk is put in front of a list, and a filler is filled.
-use Rattle.std.proofs.Common.{◌≡◌, inl, inr, ℕ, zero, suc, refl, sym, ◌∙◌, ap, subst, arith, List, [], ◌∷◌, ◌++◌, length, length-append, min, replicate, take, get_or, filter, ◌+◌, ◌-◌, ◌<◌, ◌≤◌, ◌^◌, true, false}
+use Rattle.std.proofs.Common.{◌≡◌, inl, inr, ℕ, zero, suc, refl, sym, ◌∙◌, ap, subst, arith, List, [], ◌∷◌, ◌++◌, length, length-append, min, replicate, take, get_or, filter, ◌+◌, ◌-◌, ◌<◌, ◌≤◌, ◌^◌, true, false, cond}
 use Rattle.std.proofs.lemmas.Bool.Decides.{nat_tests}
 use Rattle.std.specs.Prelude.{Option, Some, None, codes, slice_get, slice_set, nat_lt}
 use Rattle.cg_io.specs.Blocks.{Both}
@@ -25,10 +25,10 @@ use Rattle.adf_format.proofs.HexLaws.{pointer-pointer_text}
 use Rattle.adf_format.proofs.FieldLaws.{get_field, field_beside, field_written, field_left, field_right, field_whole, inner_field, length-field}
 use Rattle.adf_format.proofs.SpelledParts.{says_pointer, length-pointer_text}
 use Rattle.file_heap.specs.Heap.{ChangesOnly}
-use Rattle.file_heap.specs.Links.{PointsNowhere, ThreadsNone, Follows, EndsList, Relinks, WritesChunk, WritesGap, Pushes, list_of, link_at, range, free_table}
+use Rattle.file_heap.specs.Links.{PointsNowhere, ThreadsNone, ThreadsThese, ListsGap, Follows, EndsList, Relinks, WritesChunk, WritesGap, Pushes, list_of, lists_of, listed, number_of, class_of, link_at, range, free_table}
 use Rattle.file_heap.proofs.Ranges.{flat, here, cover_set, count_set, same_cover}
 use Rattle.file_heap.proofs.Threads.{Threading, threading_beside, threading_set}
-use Rattle.file_heap.proofs.WalkLaws.{ends_of, lists_of, all_ends, threading, list_is, ends_are, same_ranges, link_says}
+use Rattle.file_heap.proofs.ListLaws.{ends_of, all_ends, threading, list_is, ends_are, same_ranges, link_says}
 use Rattle.file_heap.proofs.TableLaws.{set_twice, get_same, ends_set, length_lists, first_written, end_written, last_after, of_threading}
 use Rattle.file_heap.proofs.ChangeLaws.{IsWithin, widened, changes_then, one_within}
 
@@ -117,7 +117,7 @@ module _ (place n k : ℕ) (first : Option ℕ) (old new : List ℕ) (long : 32 
   list_apart : MeetsNone place n (flat (lists_of t))
   list_apart b from to = same_cover (flat (lists_of t)) (filter is_free gaps) (same_ranges old gaps t) b ∙ apart b from to
 
-  first_is : first ≡ first_place (list_of t k)
+  pub first_is : first ≡ first_place (list_of t k)
   first_is = (p.follows) (first_place (list_of t k)) (link_says old gaps t k [] (list_of t k) None few refl refl)
 
   reach : IsInReach (first_place (list_of t k)) → IsInReach first
@@ -140,7 +140,7 @@ module _ (place n k : ℕ) (first : Option ℕ) (old new : List ℕ) (long : 32 
       plain : (a b c h d : ℕ) → a + b ≡ c + (h + b) → c ≡ d → a ≡ h + d
       plain a b c h d e f = omega (arith, e, f)
 
-  pub pushed_threads : IsInReach first → ThreadsFreeChunks new (new_gap place n ∷ gaps)
+  pub pushed_threads : IsInReach first → ThreadsThese new (new_gap place n ∷ gaps) (slice_set (lists_of t) k (chunk_at place n ∷ list_of t k))
   pushed_threads r =
       let w = p.chunk in
       let head_is = head_long place n first old p.whole long near r w in
@@ -168,26 +168,36 @@ pub nowhere_threads : (image : Option (List ℕ)) (k : ℕ) → k < 3 → Points
 nowhere_threads None k few nowhere = tt
 nowhere_threads (Some bytes) k few nowhere = λ gaps t. nowhere (first_place (list_of t k)) (link_says bytes gaps t k [] (list_of t k) None few refl refl)
 
-gap_of_pushed : (place n k : ℕ) (first : Option ℕ) (old new : List ℕ) → 32 ≤ n → place + n ≤ 2 ^ 44 → k < 3 → IsInReach first → Pushes place n k first old new → WritesGap place n old new
-gap_of_pushed place n k first old new long near few reach p = record {
-  threads = λ gaps apart low behind t. pushed_threads place n k first old new long near few p gaps apart low behind t reach;
+gap_of_pushed : (place n : ℕ) (first : Option ℕ) (old new : List ℕ) → 32 ≤ n → place + n ≤ 2 ^ 44 → number_of (class_of n) < 3 → IsInReach first → Pushes place n (number_of (class_of n)) first old new → WritesGap place n first old new
+gap_of_pushed place n first old new long near few reach p = record {
+  threads = λ gaps apart low behind t. record {
+    these = subst (λ b. ThreadsThese new (new_gap place n ∷ gaps) (cond b (lists_of t) (slice_set (lists_of t) (number_of (class_of n)) (chunk_at place n ∷ list_of t (number_of (class_of n)))))) (sym off)
+        (pushed_threads place n (number_of (class_of n)) first old new long near few p gaps apart low behind t reach);
+    was_first = λ _. first_is place n (number_of (class_of n)) first old new long near few p gaps apart low behind t;
+  };
   fills = λ short b low high. absurd (omega (arith, long, short));
+  unlisted = λ short. absurd (omega (arith, long, short));
 }
-
-pub pushed : (entry read whole linked new : Option (List ℕ)) (place n k : ℕ) (first : Option ℕ) → read ≡ entry → 32 ≤ n → place + n ≤ 2 ^ 44 → k < 3 → IsInReach first → Follows entry (list_first FREE_TABLE_PLACE k).offset first → Both (WritesChunk place n first) read whole
-    → Both (Writes (list_first FREE_TABLE_PLACE k).offset (pointer_text (To place))) whole linked → Both (EndsList k first (Some place)) linked new → Both (WritesGap place n) entry new
-pushed entry read whole linked new place n k first e long near few reach follows chunk link last = go entry whole linked new follows (subst (λ image. Both (WritesChunk place n first) image whole) e chunk) link last
   where
-    go : (entry whole linked new : Option (List ℕ)) → Follows entry (list_first FREE_TABLE_PLACE k).offset first → Both (WritesChunk place n first) entry whole → Both (Writes (list_first FREE_TABLE_PLACE k).offset (pointer_text (To place))) whole linked → Both (EndsList k first (Some place)) linked new
-        → Both (WritesGap place n) entry new
-    go None None None None f c l e = tt
-    go None None None (Some d) f c l e = absurd e
-    go None None (Some b) d f c l e = absurd l
-    go None (Some a) b d f c l e = absurd c
-    go (Some o) None b d f c l e = absurd c
-    go (Some o) (Some a) None d f c l e = absurd l
-    go (Some o) (Some a) (Some b) None f c l e = absurd e
-    go (Some o) (Some a) (Some b) (Some d) f c l e = gap_of_pushed place n k first o d long near few reach (record { whole = a; linked = b; follows = f; chunk = c; link = l; last = e })
+    off : nat_lt n 32 ≡ false
+    off = grind (arith, nat_tests)
+
+pub pushed : (entry read whole linked new : Option (List ℕ)) (place n k at : ℕ) (first : Option ℕ) → k ≡ number_of (class_of n) → at ≡ (list_first FREE_TABLE_PLACE k).offset → read ≡ entry → 32 ≤ n → place + n ≤ 2 ^ 44 → k < 3 → IsInReach first
+    → Follows entry (list_first FREE_TABLE_PLACE k).offset first → Both (WritesChunk place n first) read whole → Both (Writes at (pointer_text (To place))) whole linked → Both (EndsList k first (Some place)) linked new → Both (WritesGap place n first) entry new
+pushed entry read whole linked new place n k at first class here e long near few reach follows chunk link last =
+    go k class few entry whole linked new follows (subst (λ image. Both (WritesChunk place n first) image whole) e chunk) (subst (λ a. Both (Writes a (pointer_text (To place))) whole linked) here link) last
+  where
+    go : (k : ℕ) → k ≡ number_of (class_of n) → k < 3 → (entry whole linked new : Option (List ℕ)) → Follows entry (list_first FREE_TABLE_PLACE k).offset first → Both (WritesChunk place n first) entry whole
+        → Both (Writes (list_first FREE_TABLE_PLACE k).offset (pointer_text (To place))) whole linked → Both (EndsList k first (Some place)) linked new → Both (WritesGap place n first) entry new
+    go k class few None None None None f c l e = tt
+    go k class few None None None (Some d) f c l e = absurd e
+    go k class few None None (Some b) d f c l e = absurd l
+    go k class few None (Some a) b d f c l e = absurd c
+    go k class few (Some o) None b d f c l e = absurd c
+    go k class few (Some o) (Some a) None d f c l e = absurd l
+    go k class few (Some o) (Some a) (Some b) None f c l e = absurd e
+    go k class few (Some o) (Some a) (Some b) (Some d) f c l e =
+        gap_of_pushed place n first o d long near (subst (λ j. j < 3) class few) reach (subst (λ j. Pushes place n j first o d) class (record { whole = a; linked = b; follows = f; chunk = c; link = l; last = e }))
 
 -- ---- what may change
 
@@ -239,16 +249,24 @@ get_replicate zero j lt = absurd (omega (arith, lt))
 get_replicate (suc n) zero lt = refl
 get_replicate (suc n) (suc j) lt = get_replicate n j (omega (arith, lt))
 
-filled : (place n : ℕ) (text old new : List ℕ) → 0 < n → n < 32 → text ≡ replicate n 122 → Writes place text old new → WritesGap place n old new
+filled : (place n : ℕ) (text old new : List ℕ) → 0 < n → n < 32 → text ≡ replicate n 122 → Writes place text old new → WritesGap place n None old new
 filled place n text old new some short e w = record {
   threads = λ gaps apart low behind t.
-      let dropped : filter is_free (new_gap place n ∷ gaps) ≡ filter is_free gaps = let on : nat_lt n 32 ≡ true = grind (arith, nat_tests) in rw on in
+      let dropped : filter is_free (new_gap place n ∷ gaps) ≡ filter is_free gaps = rw on in
       let list_apart : MeetsNone place n (flat (lists_of t)) = λ b from to. same_cover (flat (lists_of t)) (filter is_free gaps) (same_ranges old gaps t) b ∙ apart b from to in
       let th = threading_beside place text old new (all_ends t) (lists_of t) w (omega (arith, some, size)) (inr behind) (subst (λ m. MeetsNone place m (flat (lists_of t))) (sym size) list_apart) (threading old gaps t) in
-      of_threading new (new_gap place n ∷ gaps) (lists_of t) refl th (λ q m. same_ranges old gaps t q m ∙ ap (count_of q m) (sym dropped));
+      let these = of_threading new (new_gap place n ∷ gaps) (lists_of t) refl th (λ q m. same_ranges old gaps t q m ∙ ap (count_of q m) (sym dropped)) in
+      record {
+        these = subst (λ b. ThreadsThese new (new_gap place n ∷ gaps) (cond b (lists_of t) (slice_set (lists_of t) (number_of (class_of n)) (chunk_at place n ∷ list_of t (number_of (class_of n)))))) (sym on) these;
+        was_first = λ long. absurd (omega (arith, long, short));
+      };
+  unlisted = λ _. refl;
   fills = λ _ b low high. byte b (b - place) (omega (arith, low)) (omega (arith, low, high));
 }
   where
+    on : nat_lt n 32 ≡ true
+    on = grind (arith, nat_tests)
+
     size : length text ≡ n
     size = ap length e ∙ length-replicate n 122
 
@@ -257,20 +275,11 @@ filled place n text old new some short e w = record {
         get_or_from_slice_get new b 122 0
         (sym (get_field new place (length text) j b (omega (arith, lt, size)) at) ∙ ap (λ xs. slice_get xs j) (w.stands ∙ e) ∙ get_replicate n j lt)
 
-pub is_filled : (place n : ℕ) (text : List ℕ) (old new : Option (List ℕ)) → 0 < n → n < 32 → text ≡ take {A = ℕ} n (replicate 32 122) → Both (Writes place text) old new → Both (WritesGap place n) old new
+pub is_filled : (place n : ℕ) (text : List ℕ) (old new : Option (List ℕ)) → 0 < n → n < 32 → text ≡ take {A = ℕ} n (replicate 32 122) → Both (Writes place text) old new → Both (WritesGap place n None) old new
 is_filled place n text None None some short e w = tt
 is_filled place n text None (Some new) some short e w = w
 is_filled place n text (Some old) None some short e w = w
 is_filled place n text (Some old) (Some new) some short e w = filled place n text old new some short (e ∙ take_replicate n 32 (omega (arith, short))) w
-
--- ---- nothing
-
-none_written : (place : ℕ) (bytes : List ℕ) → WritesGap place 0 bytes bytes
-none_written place bytes = record { threads = λ gaps apart low behind t. record { small = t.small; medium = t.medium; large = t.large; table = t.table; each = t.each; all = t.all }; fills = λ short b low high. absurd (omega (arith, low, high)) }
-
-pub nothing_written : (place n : ℕ) (image : Option (List ℕ)) → n ≡ 0 → Both (WritesGap place n) image image
-nothing_written place n None e = tt
-nothing_written place n (Some bytes) e = subst (λ m. WritesGap place m bytes bytes) (sym e) (none_written place bytes)
 
 -- ---- with what the calls answered
 
@@ -278,8 +287,3 @@ pub chunk_done : (place n : ℕ) (next : Option ℕ) (text closing : List ℕ) (
     → closing ≡ codes "EndC" → Both (Writes (place + n - 4) closing) middle new → Both (WritesChunk place n next) old new
 chunk_done place n next text closing p q old middle new e f g w c v =
     chunk_is_written place n next old middle new (subst (λ xs. Both (Writes place xs) old middle) (e ∙ ap (λ x. free_head_text x q) f ∙ ap (free_head_text (To (place + n - 4))) g) w) (subst (λ xs. Both (Writes (place + n - 4) xs) middle new) c v)
-
-pub push_done : (entry read whole linked new : Option (List ℕ)) (place n k at : ℕ) (first : Option ℕ) → at ≡ (list_first FREE_TABLE_PLACE k).offset → read ≡ entry → 32 ≤ n → place + n ≤ 2 ^ 44 → k < 3 → IsInReach first → Follows entry (list_first FREE_TABLE_PLACE k).offset first
-    → Both (WritesChunk place n first) read whole → Both (Writes at (pointer_text (To place))) whole linked → Both (EndsList k first (Some place)) linked new → Both (WritesGap place n) entry new
-push_done entry read whole linked new place n k at first here e long near few reach follows chunk link last =
-    pushed entry read whole linked new place n k first e long near few reach follows chunk (subst (λ a. Both (Writes a (pointer_text (To place))) whole linked) here link) last

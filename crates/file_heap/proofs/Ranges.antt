@@ -198,6 +198,9 @@ count_set place n lists k fs ys at =
 pub cover_in : (b : ℕ) (lists : List (List Extent)) (k : ℕ) (fs : List Extent) → slice_get lists k ≡ Some fs → cover fs b ≤ cover (flat lists) b
 cover_in b lists k fs at = let e = cover_set b lists k fs [] at in omega (arith, e)
 
+pub count_in : (place n : ℕ) (lists : List (List Extent)) (k : ℕ) (fs : List Extent) → slice_get lists k ≡ Some fs → count_of place n fs ≤ count_of place n (flat lists)
+count_in place n lists k fs at = let e = count_set place n lists k fs [] at in omega (arith, e)
+
 pub length_in : (lists : List (List Extent)) (k : ℕ) (fs : List Extent) → slice_get lists k ≡ Some fs → length fs ≤ length (flat lists)
 length_in lists k fs at = let e = weigh_set one_each lists k fs [] at in let f = length_weighs fs in let g = length_weighs (flat lists) in omega (arith, e, f, g)
 

@@ -21,29 +21,43 @@ use Rattle.adf_format.proofs.CountLaws.{none_holds}
 use Rattle.adf_format.proofs.FrameLaws.{field_kept}
 use Rattle.adf_format.proofs.SpelledParts.{length-pointer_text}
 use Rattle.file_heap.specs.Gaps.{IsFirstFit, gap_at, put_by_place}
-use Rattle.file_heap.specs.Heap.{ChangesOnly, KeepsFillers, KeepsThreads, MovesEnd, IsUntold, BecomeGaps}
-use Rattle.file_heap.specs.Links.{AreApart, AreGaps, ThreadsNone, WritesGap, range, free_table}
+use Rattle.file_heap.specs.Heap.{ChangesOnly, KeepsFillers, KeepsThreads, MovesEnd}
+use Rattle.file_heap.specs.Links.{AreApart, AreGaps, IsBehind, ThreadsThese, WritesGap, lists_of, number_of, range, free_table}
+use Rattle.file_heap.specs.Slots.{AreFirst, BecomeSlots, HasSlot, StandsIn, StandsOn, ThreadsSlots}
+use Rattle.gap_tree.specs.declared.slot.Slot.{Slot}
+use Rattle.gap_tree.specs.declared.slot.Spot.{Spot}
+use Rattle.gap_tree.specs.Slots.{gaps_of}
 use Rattle.file_heap.proofs.Ranges.{flat, cover_kinds, same_cover}
 use Rattle.file_heap.proofs.Threads.{table_within, threading_beside}
-use Rattle.file_heap.proofs.WalkLaws.{all_ends, lists_of, threading, same_ranges, lists_cover}
+use Rattle.file_heap.proofs.ListLaws.{all_ends, threading, same_ranges, lists_cover}
 use Rattle.file_heap.proofs.TableLaws.{of_threading}
 use Rattle.file_heap.proofs.UnlinkLaws.{count_removed}
+use Rattle.file_heap.proofs.SpotLaws.{number_few}
 use Rattle.file_heap.proofs.ChangeLaws.{IsWithin, widened, changes_then}
-use Rattle.file_heap.proofs.HeapFacts.{gaps_apart, free_cut, filler_cut, filler_removed, rest_gap, free_put, filler_put, free_unlisted}
+use Rattle.file_heap.proofs.HeapFacts.{gaps_apart, filler_removed, filler_put, free_removed}
 use Rattle.file_heap.proofs.JoinLaws.{cover_removed_gap}
 
 -- ---- the end pointer
+
+-- the same lists in other bytes
+pub these_slots : {old : List ℕ} (new : List ℕ) (gaps : List Extent) (slots : List Slot) (t : ThreadsFreeChunks old gaps) → ((s : Slot) → HasSlot slots s → StandsIn t s) → ThreadsThese new gaps (lists_of t) → ThreadsSlots gaps slots new
+these_slots new gaps slots t spots th = record { threads = th.threads; spots = λ s h f. at s.gap.place s.spot (spots s h f) }
+  where
+    at : (place : ℕ) (spot : Option Spot) → StandsOn (lists_of t) place spot → StandsOn (lists_of th.threads) place spot
+    at place None h = h
+    at place (Some spot) h = subst (λ fs. IsBehind fs place spot.front) (sym (th.are (number_of spot.list) (number_few spot.list))) h
 
 module _ (last : ℕ) (old new : List ℕ) (w : Writes HEADER_END.offset (pointer_text (To last)) old new) where
   twelve : length (pointer_text (To last)) ≡ 12
   twelve = length-pointer_text (To last)
 
   end_threads : KeepsThreads old new
-  end_threads gaps apart t =
+  end_threads gaps slots apart th =
+      let t = th.threads in
       let none : MeetsNone HEADER_END.offset HEADER_END.length (flat (lists_of t)) = λ b low high. (let l = lists_cover old gaps t b in let z = apart.low b (omega (arith, high)) in omega (arith, l, z)) in
-      of_threading new gaps (lists_of t) refl
+      these_slots new gaps slots t th.spots (of_threading new gaps (lists_of t) refl
       (threading_beside HEADER_END.offset (pointer_text (To last)) old new (all_ends t) (lists_of t) w (omega (arith, twelve)) (inl (omega (arith, twelve))) (subst (λ n. MeetsNone HEADER_END.offset n (flat (lists_of t))) (sym twelve) none) (threading old gaps t))
-      (same_ranges old gaps t)
+      (same_ranges old gaps t))
 
   end_named : last < 2 ^ 44 → PointsTo (field_in new HEADER_END) last
   end_named near = ap pointer (ap (field new HEADER_END.offset) (sym twelve) ∙ w.stands) ∙ pointer-pointer_text last near
@@ -60,11 +74,11 @@ grown_end end last None (Some new) near w = w
 grown_end end last (Some old) None near w = w
 grown_end end last (Some old) (Some new) near w = λ was. end_named last old new w near
 
-pub kept_threads : (gaps : List Extent) (old new : Option (List ℕ)) → AreApart gaps → Both KeepsThreads old new → IfSome old (λ bytes. ThreadsFreeChunks bytes gaps) → IfSome new (λ bytes. ThreadsFreeChunks bytes gaps)
-kept_threads gaps None None apart k t = tt
-kept_threads gaps None (Some new) apart k t = absurd k
-kept_threads gaps (Some old) None apart k t = absurd k
-kept_threads gaps (Some old) (Some new) apart k t = k gaps apart t
+pub kept_threads : (gaps : List Extent) (slots : List Slot) (old new : Option (List ℕ)) → AreApart gaps → Both KeepsThreads old new → IfSome old (ThreadsSlots gaps slots) → IfSome new (ThreadsSlots gaps slots)
+kept_threads gaps slots None None apart k t = tt
+kept_threads gaps slots None (Some new) apart k t = absurd k
+kept_threads gaps slots (Some old) None apart k t = absurd k
+kept_threads gaps slots (Some old) (Some new) apart k t = k gaps slots apart t
 
 -- the end pointer stays where nothing else of the head changes
 same_byte : (xs : List Extent) (old new : List ℕ) (b : ℕ) → ChangesOnly xs old new → b < length old → cover xs b ≡ 0 → slice_get new b ≡ slice_get old b
@@ -76,21 +90,18 @@ end_stays_told xs gaps end old new apart t c was =
     let long = table_within old (all_ends t) t.table in
     ap pointer (field_kept HEADER_END.length HEADER_END.offset old new (λ b low high. same_byte xs old new b c (omega (arith, long, high)) (apart b low high))) ∙ was
 
-pub end_stays : (xs gaps : List Extent) (end : ℕ) (old new : Option (List ℕ)) → MeetsNone HEADER_END.offset HEADER_END.length xs → IfSome old (λ bytes. ThreadsFreeChunks bytes gaps) → Both (ChangesOnly xs) old new → Both (MovesEnd end end) old new
-end_stays xs gaps end None None apart t c = tt
-end_stays xs gaps end None (Some new) apart t c = c
-end_stays xs gaps end (Some old) None apart t c = c
-end_stays xs gaps end (Some old) (Some new) apart t c = end_stays_told xs gaps end old new apart t c
+pub end_stays : (xs gaps : List Extent) (slots : List Slot) (end : ℕ) (old new : Option (List ℕ)) → MeetsNone HEADER_END.offset HEADER_END.length xs → IfSome old (ThreadsSlots gaps slots) → Both (ChangesOnly xs) old new → Both (MovesEnd end end) old new
+end_stays xs gaps slots end None None apart t c = tt
+end_stays xs gaps slots end None (Some new) apart t c = c
+end_stays xs gaps slots end (Some old) None apart t c = c
+end_stays xs gaps slots end (Some old) (Some new) apart t c = end_stays_told xs gaps end old new apart t.threads c
 
 -- ---- the free chunks among gaps
 
-pub same_threads : (bytes : List ℕ) (xs ys : List Extent) → HasSameRanges (filter is_free xs) (filter is_free ys) → ThreadsFreeChunks bytes xs → ThreadsFreeChunks bytes ys
-same_threads bytes xs ys same t = record { small = t.small; medium = t.medium; large = t.large; table = t.table; each = t.each; all = λ place n. t.all place n ∙ same place n }
-
-free_of_gaps : (gaps : List Extent) (place n : ℕ) → MeetsNone place n gaps → MeetsNone place n (filter is_free gaps)
+pub free_of_gaps : (gaps : List Extent) (place n : ℕ) → MeetsNone place n gaps → MeetsNone place n (filter is_free gaps)
 free_of_gaps gaps place n none b low high = let k = cover_kinds b gaps in let z = none b low high in omega (arith, k, z)
 
-low_apart : (gaps : List Extent) → AreGaps gaps → MeetsNone FREE_TABLE_PLACE FREE_TABLE_LENGTH gaps
+pub low_apart : (gaps : List Extent) → AreGaps gaps → MeetsNone FREE_TABLE_PLACE FREE_TABLE_LENGTH gaps
 low_apart gaps g b low high = (gaps_apart gaps g).low b (omega (arith, high))
 
 -- the free chunks but one
@@ -152,23 +163,6 @@ cut_changes gaps i n gap a b c is g fit v w =
     changes_then (free_table ∷ filter is_free gaps) a b c v
     (widened (free_table ∷ range ((gap_at gaps i).place + n) ((gap_at gaps i).length - n) ∷ []) (free_table ∷ filter is_free gaps) b c (rest_within gaps i n g fit) (subst (λ (x : Extent). Both (ChangesOnly (free_table ∷ range (x.place + n) (x.length - n) ∷ [])) b c) is w))
 
-pub cut_threads : (gaps : List Extent) (i n : ℕ) (gap : Extent) (b c : Option (List ℕ)) → gap ≡ gap_at gaps i → AreGaps gaps → IsFirstFit n gaps i → 32 ≤ (gap_at gaps i).length → IfSome b (λ bytes. ThreadsFreeChunks bytes (remove gaps i))
-    → Both (WritesGap (gap.place + n) (gap.length - n)) b c → IfSome c (λ bytes. ThreadsFreeChunks bytes (cut n gaps))
-cut_threads gaps i n gap b c is g fit long t w = go b c t (subst (λ (x : Extent). Both (WritesGap (x.place + n) (x.length - n)) b c) is w)
-  where
-    go : (b c : Option (List ℕ)) → IfSome b (λ bytes. ThreadsFreeChunks bytes (remove gaps i)) → Both (WritesGap ((gap_at gaps i).place + n) ((gap_at gaps i).length - n)) b c → IfSome c (λ bytes. ThreadsFreeChunks bytes (cut n gaps))
-    go None None t w = tt
-    go None (Some c) t w = absurd w
-    go (Some b) None t w = absurd w
-    go (Some b) (Some c) t w =
-        let low : 266 ≤ (gap_at gaps i).place = behind_table gaps i n g fit (omega (arith, long)) in
-        same_threads c (rest_gap n (gap_at gaps i) ∷ remove gaps i) (cut n gaps) (free_cut n i gaps fit) (w.threads (remove gaps i) (rest_apart gaps i n g fit) (low_removed gaps i n g fit) (omega (arith, low)) t)
-
-pub cut_untold : (gaps : List Extent) (xs : List Extent) (a b : Option (List ℕ)) → Both (ChangesOnly xs) a b → IfSome b (λ bytes. ThreadsFreeChunks bytes gaps) → ThreadsNone b → IsUntold a
-cut_untold gaps xs None b c t none = tt
-cut_untold gaps xs (Some a) None c t none = c
-cut_untold gaps xs (Some a) (Some b) c t none = none gaps t
-
 -- ---- fillers
 
 filler_apart : (gaps : List Extent) (b : ℕ) → AreGaps gaps → 0 < cover (filter is_filler gaps) b → cover (free_table ∷ filter is_free gaps) b ≡ 0
@@ -217,28 +211,11 @@ gap_filler p n b gs some = by_test (nat_lt n 32) refl some
     by_test true e h = inside (nat_le p b && nat_lt b (p + n)) refl (short e) h
     by_test false e h = inr h
 
-pub cut_fillers : (gaps : List Extent) (i n : ℕ) (gap : Extent) (a b c : Option (List ℕ)) → gap ≡ gap_at gaps i → AreGaps gaps → IsFirstFit n gaps i → Both (ChangesOnly (free_table ∷ filter is_free gaps)) a b
-    → Both (WritesGap (gap.place + n) (gap.length - n)) b c → Both (ChangesOnly (free_table ∷ filter is_free gaps)) a c → Both (KeepsFillers gaps (cut n gaps)) a c
-cut_fillers gaps i n gap a b c is g fit v w u = go a b c v (subst (λ (x : Extent). Both (WritesGap (x.place + n) (x.length - n)) b c) is w) u
-  where
-    go : (a b c : Option (List ℕ)) → Both (ChangesOnly (free_table ∷ filter is_free gaps)) a b → Both (WritesGap ((gap_at gaps i).place + n) ((gap_at gaps i).length - n)) b c → Both (ChangesOnly (free_table ∷ filter is_free gaps)) a c
-        → Both (KeepsFillers gaps (cut n gaps)) a c
-    go None None None v w u = tt
-    go None None (Some c) v w u = u
-    go None (Some b) c v w u = absurd v
-    go (Some a) None c v w u = absurd v
-    go (Some a) (Some b) None v w u = u
-    go (Some a) (Some b) (Some c) v w u = λ held k some.
-        elim (gap_filler ((gap_at gaps i).place + n) ((gap_at gaps i).length - n) k (remove gaps i) (subst (λ m. 0 < m) (filler_cut n i gaps k fit) some)) [
-          | inl h ↦ w.fills h.0 k h.1 h.2
-          | inr h ↦ (let le = filler_removed i gaps k in let more : 0 < cover (filter is_filler gaps) k = omega (arith, h, le) in u.others k (filler_apart gaps k g more) ∙ held k more)
-        ]
-
-pub put_fillers : (gaps : List Extent) (place n : ℕ) (a c : Option (List ℕ)) → AreGaps gaps → MeetsNone place n gaps → Both (WritesGap place n) a c → Both (ChangesOnly (free_table ∷ range place n ∷ [])) a c → Both (KeepsFillers gaps (put_by_place (new_gap place n) gaps)) a c
-put_fillers gaps place n None None g none w u = tt
-put_fillers gaps place n None (Some c) g none w u = u
-put_fillers gaps place n (Some a) None g none w u = u
-put_fillers gaps place n (Some a) (Some c) g none w u = λ held k some.
+pub put_fillers : (gaps : List Extent) (place n : ℕ) (first : Option ℕ) (a c : Option (List ℕ)) → AreGaps gaps → MeetsNone place n gaps → Both (WritesGap place n first) a c → Both (ChangesOnly (free_table ∷ range place n ∷ [])) a c → Both (KeepsFillers gaps (put_by_place (new_gap place n) gaps)) a c
+put_fillers gaps place n first None None g none w u = tt
+put_fillers gaps place n first None (Some c) g none w u = u
+put_fillers gaps place n first (Some a) None g none w u = u
+put_fillers gaps place n first (Some a) (Some c) g none w u = λ held k some.
     elim (gap_filler place n k gaps (subst (λ m. 0 < m) (filler_put k (new_gap place n) gaps) some)) [
       | inl h ↦ w.fills h.0 k h.1 h.2
       | inr h ↦ u.others k (apart k h) ∙ held k h
@@ -266,20 +243,7 @@ put_fillers gaps place n (Some a) (Some c) g none w u = λ held k some.
         out : holds_byte (range place n) k ≡ false
         out = outside (λ low high. let z = none k low high in let c = cover_kinds k gaps in omega (arith, z, c, some))
 
-pub put_threads : (gaps : List Extent) (place n : ℕ) (a c : Option (List ℕ)) → AreGaps gaps → MeetsNone place n gaps → 266 ≤ place → IfSome a (λ bytes. ThreadsFreeChunks bytes gaps) → Both (WritesGap place n) a c
-    → IfSome c (λ bytes. ThreadsFreeChunks bytes (put_by_place (new_gap place n) gaps))
-put_threads gaps place n None None g none low t w = tt
-put_threads gaps place n None (Some c) g none low t w = absurd w
-put_threads gaps place n (Some a) None g none low t w = absurd w
-put_threads gaps place n (Some a) (Some c) g none low t w =
-    same_threads c (new_gap place n ∷ gaps) (put_by_place (new_gap place n) gaps) (λ q m. sym (free_put q m (new_gap place n) gaps))
-    (w.threads gaps (free_of_gaps gaps place n none) (free_of_gaps gaps FREE_TABLE_PLACE FREE_TABLE_LENGTH (low_apart gaps g)) low t)
-
 -- ---- a gap that is joined with the range
-
-pub unlisted_threads : (gaps : List Extent) (i : ℕ) (image : Option (List ℕ)) → i < length gaps → is_free (gap_at gaps i) ≡ false → IfSome image (λ bytes. ThreadsFreeChunks bytes gaps) → IfSome image (λ bytes. ThreadsFreeChunks bytes (remove gaps i))
-unlisted_threads gaps i None lt off t = tt
-unlisted_threads gaps i (Some bytes) lt off t = same_threads bytes gaps (remove gaps i) (λ q m. ap (count_of q m) (sym (free_unlisted i gaps lt off))) t
 
 -- the range q, m is the range place, n and the gap at i
 abbrev pub IsJoined : ℕ → ℕ → Extent → ℕ → ℕ → Type 0
@@ -330,7 +294,7 @@ joined_changes place n q m i gaps a b c lt sum v w =
     changes_then (free_table ∷ range place n ∷ gaps) a b c (left_changes place n gaps a b v) (widened (free_table ∷ range q m ∷ remove gaps i) (free_table ∷ range place n ∷ gaps) b c (joined_within place n q m i gaps lt sum) w)
 
 -- the fillers of the gaps that are left
-rest_fillers : (gaps : List Extent) (i : ℕ) (a b : Option (List ℕ)) → AreGaps gaps → Both (ChangesOnly (free_table ∷ filter is_free gaps)) a b → Both (KeepsFillers gaps (remove gaps i)) a b
+pub rest_fillers : (gaps : List Extent) (i : ℕ) (a b : Option (List ℕ)) → AreGaps gaps → Both (ChangesOnly (free_table ∷ filter is_free gaps)) a b → Both (KeepsFillers gaps (remove gaps i)) a b
 rest_fillers gaps i None None g v = tt
 rest_fillers gaps i None (Some b) g v = v
 rest_fillers gaps i (Some a) None g v = v
@@ -338,7 +302,7 @@ rest_fillers gaps i (Some a) (Some b) g v = λ held k some.
     let le = filler_removed i gaps k in
     let more : 0 < cover (filter is_filler gaps) k = omega (arith, some, le) in v.others k (filler_apart gaps k g more) ∙ held k more
 
-fillers_then : (xs ys zs : List Extent) (a b c : Option (List ℕ)) → Both (KeepsFillers xs ys) a b → Both (KeepsFillers ys zs) b c → Both (KeepsFillers xs zs) a c
+pub fillers_then : (xs ys zs : List Extent) (a b c : Option (List ℕ)) → Both (KeepsFillers xs ys) a b → Both (KeepsFillers ys zs) b c → Both (KeepsFillers xs zs) a c
 fillers_then xs ys zs None None None v w = tt
 fillers_then xs ys zs None None (Some c) v w = w
 fillers_then xs ys zs None (Some b) c v w = absurd v
@@ -346,15 +310,20 @@ fillers_then xs ys zs (Some a) None c v w = absurd v
 fillers_then xs ys zs (Some a) (Some b) None v w = w
 fillers_then xs ys zs (Some a) (Some b) (Some c) v w = λ held. w (v held)
 
--- one gap is joined, and then the rest become others
-pub joined_become : (i : ℕ) (becomes after gaps new : List Extent) (a b c : Option (List ℕ)) → AreGaps gaps → becomes ≡ after → Both (ChangesOnly (free_table ∷ filter is_free gaps)) a b → BecomeGaps becomes (remove gaps i) new b c → BecomeGaps after gaps new a c
-joined_become i becomes after gaps new a b c g e v w = subst (λ xs. BecomeGaps xs gaps new a c) e (record { are = w.are; threads = w.threads; fillers = fillers_then gaps (remove gaps i) becomes a b c (rest_fillers gaps i a b g v) w.fillers })
+-- a free chunk that is new to all gaps is new to those that are left
+first_among : (i : ℕ) (gaps becomes : List Extent) (image : Option (List ℕ)) → IfSome image (AreFirst (remove gaps i) becomes) → IfSome image (AreFirst gaps becomes)
+first_among i gaps becomes None f = tt
+first_among i gaps becomes (Some bytes) f = λ place n more. f place n (let le = free_removed place n i gaps in omega (arith, le, more))
 
--- bytes that are told before a call are told after it
-pub untold_before : (xs : List Extent) (a b : Option (List ℕ)) → Both (ChangesOnly xs) a b → IsUntold b → IsUntold a
-untold_before xs None b c u = tt
-untold_before xs (Some a) None c u = absurd c
-untold_before xs (Some a) (Some b) c u = u
+-- one gap is joined, and then the rest become others
+pub joined_become : (i : ℕ) (becomes after : List Extent) (slots rest new : List Slot) (a b c : Option (List ℕ)) → AreGaps (gaps_of slots) → gaps_of rest ≡ remove (gaps_of slots) i → becomes ≡ after → Both (ChangesOnly (free_table ∷ filter is_free (gaps_of slots))) a b
+    → BecomeSlots becomes rest new b c → BecomeSlots after slots new a c
+joined_become i becomes after slots rest new a b c g left e v w = subst (λ xs. BecomeSlots xs slots new a c) e (record {
+  are = w.are;
+  threads = w.threads;
+  first = first_among i (gaps_of slots) becomes c (subst (λ gs. IfSome c (AreFirst gs becomes)) left w.first);
+  fillers = fillers_then (gaps_of slots) (remove (gaps_of slots) i) becomes a b c (rest_fillers (gaps_of slots) i a b g v) (subst (λ gs. Both (KeepsFillers gs becomes) b c) left w.fillers);
+})
 
 -- bytes beside the free table and the free chunks stay
 pub fillers_stay : (xs gaps : List Extent) (a c : Option (List ℕ)) → AreGaps gaps → ((b : ℕ) → 266 ≤ b → cover xs b ≡ 0) → Both (ChangesOnly xs) a c → Both (KeepsFillers gaps gaps) a c

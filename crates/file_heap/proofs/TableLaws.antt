@@ -9,14 +9,14 @@ use Rattle.adf_format.specs.Pointer.{pointer, pointer_text}
 use Rattle.adf_format.specs.Spelled.{pointer_to, IsInReach}
 use Rattle.adf_format.specs.Tiles.{MeetsNone, is_free}
 use Rattle.adf_format.specs.Parts.{HasPointer}
-use Rattle.adf_format.specs.LaysOut.{ThreadsFreeChunks, first_place, last_place, count_of}
+use Rattle.adf_format.specs.LaysOut.{first_place, last_place, count_of}
 use Rattle.adf_format.specs.Changes.{Writes}
 use Rattle.adf_format.proofs.FieldLaws.{field_beside, inner_field}
 use Rattle.adf_format.proofs.SpelledParts.{says_pointer, length-pointer_text}
-use Rattle.file_heap.specs.Links.{EndsList}
+use Rattle.file_heap.specs.Links.{EndsList, ThreadsThese}
 use Rattle.file_heap.proofs.Ranges.{flat, count-append}
 use Rattle.file_heap.proofs.Threads.{Threading, table_within, threading_ends}
-use Rattle.file_heap.proofs.WalkLaws.{ends_of}
+use Rattle.file_heap.proofs.ListLaws.{ends_of}
 
 -- ---- lists of pairs
 
@@ -99,19 +99,22 @@ end_written k (Some next) last old new ends lists a z few reach here none e t =
 
 -- ---- back to the three lists
 
-pub of_threading : (bytes : List ℕ) (gaps : List Extent) (lists : List (List Extent)) → length lists ≡ 3 → Threading bytes (map ends_of lists) lists → ((place n : ℕ) → count_of place n (flat lists) ≡ count_of place n (filter is_free gaps)) → ThreadsFreeChunks bytes gaps
+pub of_threading : (bytes : List ℕ) (gaps : List Extent) (lists : List (List Extent)) → length lists ≡ 3 → Threading bytes (map ends_of lists) lists → ((place n : ℕ) → count_of place n (flat lists) ≡ count_of place n (filter is_free gaps)) → ThreadsThese bytes gaps lists
 of_threading bytes gaps [] three t same = absurd (omega (arith, three))
 of_threading bytes gaps (a ∷ []) three t same = absurd (omega (arith, three))
 of_threading bytes gaps (a ∷ b ∷ []) three t same = absurd (omega (arith, three))
 of_threading bytes gaps (a ∷ b ∷ c ∷ []) three t same = record {
-  small = a;
-  medium = b;
-  large = c;
-  table = t.table;
-  each = (t.each 0 a refl, t.each 1 b refl, t.each 2 c refl);
-  all = λ place n.
-      count-append place n (a ++ b) c ∙ ap (λ k. k + count_of place n c) (count-append place n a b) ∙ plain (count_of place n a) (count_of place n b) (count_of place n c)
-      ∙ sym (count-append place n a (b ++ (c ++ [])) ∙ ap (λ k. count_of place n a + k) (count-append place n b (c ++ []) ∙ ap (λ k. count_of place n b + k) (count-append place n c []))) ∙ same place n;
+  threads = record {
+    small = a;
+    medium = b;
+    large = c;
+    table = t.table;
+    each = (t.each 0 a refl, t.each 1 b refl, t.each 2 c refl);
+    all = λ place n.
+        count-append place n (a ++ b) c ∙ ap (λ k. k + count_of place n c) (count-append place n a b) ∙ plain (count_of place n a) (count_of place n b) (count_of place n c)
+        ∙ sym (count-append place n a (b ++ (c ++ [])) ∙ ap (λ k. count_of place n a + k) (count-append place n b (c ++ []) ∙ ap (λ k. count_of place n b + k) (count-append place n c []))) ∙ same place n;
+  };
+  are = λ k lt. refl;
 }
   where
     plain : (a b c : ℕ) → a + b + c ≡ a + (b + (c + 0))

@@ -12,12 +12,10 @@ use Rattle.adf_format.specs.LaysOut.{IsThreaded, ThreadsFreeChunks, first_place,
 use Rattle.adf_format.specs.Changes.{Writes}
 use Rattle.adf_format.proofs.HeapLaws.{in_range}
 use Rattle.file_heap.specs.Gaps.{gap_at}
-use Rattle.file_heap.specs.Heap.{IsUntold}
-use Rattle.file_heap.specs.Links.{Points, PointsNowhere, Follows, AreApart, IsBehind, IsSpotOf, IsFreeAt, Relinks, EndsList, list_of, link_at}
-use Rattle.file_heap.specs.declared.lists.Spot.{Spot}
+use Rattle.file_heap.specs.Links.{Points, Follows, AreApart, IsBehind, Relinks, EndsList, ThreadsThese, list_of, lists_of, link_at}
 use Rattle.file_heap.proofs.Ranges.{flat, here, count_without, cover_without, count_set, cover_set, one_length, test_holds}
 use Rattle.file_heap.proofs.Threads.{Threading, first_of, threads_behind, threading_set, threading_next}
-use Rattle.file_heap.proofs.WalkLaws.{ends_of, lists_of, all_ends, threading, list_is, ends_are, same_ranges, lists_cover, list_threaded, chunk_stands, first_in_reach, EndsWith, ends_with, ends_nowhere, last_added, link_says}
+use Rattle.file_heap.proofs.ListLaws.{ends_of, all_ends, threading, list_is, ends_are, same_ranges, lists_cover, list_threaded, chunk_stands, first_in_reach, EndsWith, ends_with, ends_nowhere, last_added, link_says}
 use Rattle.file_heap.proofs.TableLaws.{set_twice, get_same, ends_set, length_lists, first_written, end_written, last_after, of_threading, last_of_rest, last_of_joined}
 
 -- ---- the gaps without one of them
@@ -36,16 +34,13 @@ count_removed place n (g ∷ gs) (suc i) lt free = by_free (is_free g) (count_re
     by_free true e = plain (count_of place n (filter is_free gs)) (here place n (gap_at gs i).place (gap_at gs i).length) (count_of place n (filter is_free (remove gs i))) (here place n g.place g.length) e
     by_free false e = e
 
-counted : (gaps : List Extent) (i : ℕ) → i < length gaps → is_free (gap_at gaps i) ≡ true → 0 < count_of (gap_at gaps i).place (gap_at gaps i).length (filter is_free gaps)
+pub counted : (gaps : List Extent) (i : ℕ) → i < length gaps → is_free (gap_at gaps i) ≡ true → 0 < count_of (gap_at gaps i).place (gap_at gaps i).length (filter is_free gaps)
 counted gaps i lt free =
     let g = gap_at gaps i in
     let e = count_removed g.place g.length gaps i lt free in
     let on = test_holds g.place g.place g.length g.length refl refl in
     let one : here g.place g.length g.place g.length ≡ 1 = rw on in
     omega (arith, e, one)
-
-pub free_at : (gaps : List Extent) (i : ℕ) → i < length gaps → is_free (gap_at gaps i) ≡ true → IsFreeAt (gap_at gaps i).place gaps
-free_at gaps i lt free = ((gap_at gaps i).length, counted gaps i lt free)
 
 -- ---- the lists without one of the chunks
 
@@ -95,7 +90,7 @@ module _ (old : List ℕ) (gaps : List Extent) (i : ℕ) (t : ThreadsFreeChunks 
       plain : (h a b : ℕ) → h + a ≡ h + b → a ≡ b
       plain h a b e = omega (arith, e)
 
-  finish : (new : List ℕ) (ends : List (Option ℕ × Option ℕ)) → ends ≡ slice_set (all_ends t) k (ends_of (before ++ after)) → Threading new ends (slice_set (lists_of t) k (before ++ after)) → ThreadsFreeChunks new (remove gaps i)
+  finish : (new : List ℕ) (ends : List (Option ℕ × Option ℕ)) → ends ≡ slice_set (all_ends t) k (ends_of (before ++ after)) → Threading new ends (slice_set (lists_of t) k (before ++ after)) → ThreadsThese new (remove gaps i) (slice_set (lists_of t) k (before ++ after))
   finish new ends e th =
       of_threading new (remove gaps i) (slice_set (lists_of t) k (before ++ after)) (length_lists (lists_of t) k (before ++ after))
       (subst (λ xs. Threading new xs (slice_set (lists_of t) k (before ++ after))) (e ∙ ends_set (lists_of t) k (before ++ after)) th) rest_counts
@@ -104,7 +99,7 @@ module _ (old : List ℕ) (gaps : List Extent) (i : ℕ) (t : ThreadsFreeChunks 
   ends_is = ends_are old gaps t k few ∙ ap (λ xs. Some (ends_of xs)) is
 
   -- the first of the list
-  pub first_unlinked : (middle new : List ℕ) → before ≡ [] → Writes (list_first FREE_TABLE_PLACE k).offset (pointer_text (pointer_to (first_place after))) old middle → EndsList k (first_place after) None middle new → ThreadsFreeChunks new (remove gaps i)
+  pub first_unlinked : (middle new : List ℕ) → before ≡ [] → Writes (list_first FREE_TABLE_PLACE k).offset (pointer_text (pointer_to (first_place after))) old middle → EndsList k (first_place after) None middle new → ThreadsThese new (remove gaps i) (slice_set (lists_of t) k (before ++ after))
   first_unlinked middle new none w e =
       let reach = first_in_reach old gaps t apart k (before ++ c ∷ []) after few (is ∙ sym (append_assoc before (c ∷ []) after)) in
       let rest : IsThreaded old (before ++ after) = subst (λ xs. IsThreaded old (xs ++ after)) (sym none) (threads_behind old (before ++ c ∷ []) after (subst (IsThreaded old) (is ∙ sym (append_assoc before (c ∷ []) after)) (list_threaded old gaps t k few))) in
@@ -119,7 +114,7 @@ module _ (old : List ℕ) (gaps : List Extent) (i : ℕ) (t : ThreadsFreeChunks 
 
   -- a chunk behind another
   pub next_unlinked : (middle new : List ℕ) (bs : List Extent) (f : Extent) → before ≡ bs ++ f ∷ [] → Writes (f.place + 16) (pointer_text (pointer_to (first_place after))) old middle → EndsList k (first_place after) (Some f.place) middle new
-      → ThreadsFreeChunks new (remove gaps i)
+      → ThreadsThese new (remove gaps i) (slice_set (lists_of t) k (before ++ after))
   next_unlinked middle new bs f split w e =
       let reach = first_in_reach old gaps t apart k (before ++ c ∷ []) after few (is ∙ sym (append_assoc before (c ∷ []) after)) in
       let whole : list_of t k ≡ bs ++ f ∷ c ∷ after = is ∙ ap (λ xs. xs ++ c ∷ after) split ∙ append_assoc bs (f ∷ []) (c ∷ after) in
@@ -136,49 +131,23 @@ module _ (old : List ℕ) (gaps : List Extent) (i : ℕ) (t : ThreadsFreeChunks 
       near : (p n : ℕ) → p + n ≤ 2 ^ 44 → 32 ≤ n → p < 2 ^ 44
       near p n le long = omega (arith, le, long)
 
--- ---- told of the bytes
+-- ---- with the chunk at its spot
 
-one_place : (a b : ℕ) → a + 16 ≡ b + 16 → a ≡ b
-one_place a b e = omega (arith, e)
+module _ (old new : List ℕ) (gaps : List Extent) (i k : ℕ) (front next : Option ℕ) (t : ThreadsFreeChunks old gaps) (few : k < 3) (b : IsBehind (list_of t k) (gap_at gaps i).place front) (follows : Follows (Some old) ((gap_at gaps i).place + 16) next) where
+  whole : list_of t k ≡ (b.before ++ b.chunk ∷ []) ++ b.after
+  whole = b.is ∙ sym (append_assoc b.before (b.chunk ∷ []) b.after)
 
-told : (old new : List ℕ) (gaps : List Extent) (i k : ℕ) (front next : Option ℕ) (t : ThreadsFreeChunks old gaps) → AreApart gaps → i < length gaps → is_free (gap_at gaps i) ≡ true → 32 ≤ (gap_at gaps i).length → k < 3
-    → IsBehind (list_of t k) (gap_at gaps i).place front → Follows (Some old) ((gap_at gaps i).place + 16) next → Relinks k front next old new → ThreadsFreeChunks new (remove gaps i)
-told old new gaps i k front next t apart inside free long few b follows r = by_front front b.follows r.middle (subst (λ n. Writes (link_at k front) (pointer_text (pointer_to n)) old r.middle) behind r.link) (subst (λ n. EndsList k n front r.middle new) behind r.last)
-  where
-    whole : list_of t k ≡ (b.before ++ b.chunk ∷ []) ++ b.after
-    whole = b.is ∙ sym (append_assoc b.before (b.chunk ∷ []) b.after)
+  -- what was read is the chunk behind
+  pub read_behind : next ≡ first_place b.after
+  read_behind = follows (first_place b.after) (subst (λ p. Points old (p + 16) (first_place b.after)) b.here (link_says old gaps t k (b.before ++ b.chunk ∷ []) b.after (Some b.chunk.place) few whole (sym (last_added b.before b.chunk))))
 
-    behind : next ≡ first_place b.after
-    behind = follows (first_place b.after) (subst (λ p. Points old (p + 16) (first_place b.after)) b.here (link_says old gaps t k (b.before ++ b.chunk ∷ []) b.after (Some b.chunk.place) few whole (sym (last_added b.before b.chunk))))
-
-    by_front : (front : Option ℕ) → front ≡ last_place b.before → (middle : List ℕ) → Writes (link_at k front) (pointer_text (pointer_to (first_place b.after))) old middle → EndsList k (first_place b.after) front middle new → ThreadsFreeChunks new (remove gaps i)
-    by_front None e middle w l = first_unlinked old gaps i t apart inside free long k few b.before b.chunk b.after b.is b.here middle new (ends_nowhere b.before e) w l
-    by_front (Some f) e middle w l =
-        let s : EndsWith b.before f = ends_with b.before f e in
-        next_unlinked old gaps i t apart inside free long k few b.before b.chunk b.after b.is b.here middle new s.before s.chunk s.is
-        (subst (λ p. Writes (p + 16) (pointer_text (pointer_to (first_place b.after))) old middle) (sym s.here) w) (subst (λ p. EndsList k (first_place b.after) (Some p) middle new) (sym s.here) l)
-
-pub unlinked : (old new : Option (List ℕ)) (gaps : List Extent) (i : ℕ) (spot : Spot) (next : Option ℕ) → IfSome old (λ bytes. ThreadsFreeChunks bytes gaps) → AreApart gaps → i < length gaps → is_free (gap_at gaps i) ≡ true → 32 ≤ (gap_at gaps i).length
-    → spot.list < 3 → IfSome old (λ bytes. (t : ThreadsFreeChunks bytes gaps) → IsSpotOf t (gap_at gaps i).place spot) → Follows old ((gap_at gaps i).place + 16) next → Both (Relinks spot.list spot.front next) old new
-    → IfSome new (λ bytes. ThreadsFreeChunks bytes (remove gaps i))
-unlinked None None gaps i spot next threads apart inside free long few at follows r = tt
-unlinked None (Some new) gaps i spot next threads apart inside free long few at follows r = absurd r
-unlinked (Some old) None gaps i spot next threads apart inside free long few at follows r = absurd r
-unlinked (Some old) (Some new) gaps i spot next t apart inside free long few at follows r = told old new gaps i spot.list spot.front next t apart inside free long few (at t) follows r
-
--- what is read behind the chunk is a pointer
-pub unlink_reads : (old : Option (List ℕ)) (gaps : List Extent) (place : ℕ) (spot : Spot) → IfSome old (λ bytes. ThreadsFreeChunks bytes gaps) → spot.list < 3 → IfSome old (λ bytes. (t : ThreadsFreeChunks bytes gaps) → IsSpotOf t place spot)
-    → PointsNowhere old (place + 16) → IsUntold old
-unlink_reads None gaps place spot threads few at nowhere = tt
-unlink_reads (Some old) gaps place spot t few at nowhere =
-    let b = at t in
-    nowhere (first_place b.after) (subst (λ p. Points old (p + 16) (first_place b.after)) b.here
-    (link_says old gaps t spot.list (b.before ++ b.chunk ∷ []) b.after (Some b.chunk.place) few (b.is ∙ sym (append_assoc b.before (b.chunk ∷ []) b.after)) (sym (last_added b.before b.chunk))))
-
--- the same, where the bytes are those at entry until they are written
-pub unlink_done : (entry found read new : Option (List ℕ)) (gaps : List Extent) (i : ℕ) (gap : Extent) (spot : Spot) (next : Option ℕ) → gap ≡ gap_at gaps i → found ≡ entry → read ≡ found → IfSome entry (λ bytes. ThreadsFreeChunks bytes gaps) → AreApart gaps
-    → i < length gaps → is_free (gap_at gaps i) ≡ true → 32 ≤ (gap_at gaps i).length → spot.list < 3 → IfSome entry (λ bytes. (t : ThreadsFreeChunks bytes gaps) → IsSpotOf t gap.place spot) → Follows found (gap.place + 16) next
-    → Both (Relinks spot.list spot.front next) read new → IfSome new (λ bytes. ThreadsFreeChunks bytes (remove gaps i))
-unlink_done entry found read new gaps i gap spot next is e f threads apart inside free long few at follows r =
-    unlinked entry new gaps i spot next threads apart inside free long few (subst (λ (x : Extent). IfSome entry (λ bytes. (t : ThreadsFreeChunks bytes gaps) → IsSpotOf t x.place spot)) is at)
-    (subst (λ (x : Extent). Follows entry (x.place + 16) next) is (subst (λ image. Follows image (gap.place + 16) next) e follows)) (subst (λ image. Both (Relinks spot.list spot.front next) image new) (f ∙ e) r)
+  pub unlinked : AreApart gaps → i < length gaps → is_free (gap_at gaps i) ≡ true → 32 ≤ (gap_at gaps i).length → Relinks k front next old new → ThreadsThese new (remove gaps i) (slice_set (lists_of t) k (b.before ++ b.after))
+  unlinked apart inside free long r = by_front front b.follows r.middle (subst (λ n. Writes (link_at k front) (pointer_text (pointer_to n)) old r.middle) read_behind r.link) (subst (λ n. EndsList k n front r.middle new) read_behind r.last)
+    where
+      by_front : (front : Option ℕ) → front ≡ last_place b.before → (middle : List ℕ) → Writes (link_at k front) (pointer_text (pointer_to (first_place b.after))) old middle → EndsList k (first_place b.after) front middle new
+          → ThreadsThese new (remove gaps i) (slice_set (lists_of t) k (b.before ++ b.after))
+      by_front None e middle w l = first_unlinked old gaps i t apart inside free long k few b.before b.chunk b.after b.is b.here middle new (ends_nowhere b.before e) w l
+      by_front (Some f) e middle w l =
+          let s : EndsWith b.before f = ends_with b.before f e in
+          next_unlinked old gaps i t apart inside free long k few b.before b.chunk b.after b.is b.here middle new s.before s.chunk s.is
+          (subst (λ p. Writes (p + 16) (pointer_text (pointer_to (first_place b.after))) old middle) (sym s.here) w) (subst (λ p. EndsList k (first_place b.after) (Some p) middle new) (sym s.here) l)

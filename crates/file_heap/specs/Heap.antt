@@ -1,32 +1,44 @@
 -- The free space of a file in memory, and what its calls answer and change.
-use Rattle.std.specs.Prelude.{◌≡◌, ℕ, ◌+◌, ◌-◌, ◌*◌, ◌<◌, ◌≤◌, ◌^◌, get_or, List, ◌∷◌, ◌++◌, length, filter, Option, Some, None, IfSome, Result, Ok, Err, ⊤}
+use Rattle.std.specs.Prelude.{◌≡◌, ℕ, ◌+◌, ◌-◌, ◌*◌, ◌<◌, ◌≤◌, ◌^◌, List, ◌∷◌, ◌++◌, Option, IfSome, Result, Ok, Err, OnOk, OnErr, ⊤}
 use Rattle.std.specs.List.{AllByRecursion}
-use Rattle.std.specs.Global.{Vec}
-use Rattle.cg_io.specs.Blocks.{Both}
-pub use Rattle.cg_io.specs.Answers.{IsRefusal, IsUntold}
-use Rattle.cg_io.specs.Answers.{OnlyReads}
+use Rattle.cg_io.specs.Blocks.{Both, ReadsFew}
 use Rattle.cg_io.specs.Device.{DeviceState}
+use Rattle.cg_io.specs.Answers.{AnswersWrite, IsRefusal}
 use Rattle.adf_format.specs.declared.types.Extent.{Extent}
 use Rattle.adf_format.specs.declared.types.ExtentKind.{ExtentKind}
-use Rattle.adf_format.specs.Tiles.{Tiles, cover, end_of, is_filler, MeetsNone}
+use Rattle.adf_format.specs.Tiles.{Tiles, cover, end_of, MeetsNone}
 use Rattle.adf_format.specs.Placement.{Heap, extent}
-use Rattle.adf_format.specs.LaysOut.{AreGapsInOrder, ThreadsFreeChunks}
-use Rattle.adf_format.specs.declared.fields.TheConstants.{HEADER_END}
-use Rattle.adf_format.specs.RecordFields.{field_in}
-use Rattle.adf_format.specs.Pointer.{PointsTo}
+use Rattle.adf_format.specs.LaysOut.{AreGapsInOrder}
+use Rattle.adf_format.specs.Changes.{heap_fields}
+use Rattle.adf_format.specs.HeapRule.{heap_take, pairs}
+use Rattle.gap_tree.specs.declared.slot.Slot.{Slot}
+use Rattle.gap_tree.specs.Slots.{gaps_of}
 use Rattle.file_heap.specs.Links.{AreApart, range}
-use Rattle.adf_format.specs.HeapRule.{heap_take}
-pub use Rattle.adf_format.specs.HeapBytes.{ChangesOnly, HoldsFillers, KeepsFillers, MovesEnd}
+use Rattle.file_heap.specs.Slots.{ThreadsSlots, AreFirst}
+pub use Rattle.adf_format.specs.HeapBytes.{ChangesOnly, KeepsFillers, MovesEnd}
 use Rattle.adf_model.specs.declared.error.AdfError.{AdfError}
 use Rattle.adf_model.specs.declared.error.AdfError.TheVariants as error
 
 -- ---- the free space
 
+-- free space, and its gaps with the spots of the free chunks in the lists
+pub record FreeSpace : Type 0 where
+  pub heap : Heap
+  pub slots : List Slot
+
 -- the free space in work, as it was last accepted, and the address limit in blocks
 pub record HeapState : Type 0 where
-  pub now : Heap
-  pub kept : Heap
+  pub work : FreeSpace
+  pub kept : FreeSpace
   pub limit : ℕ
+
+-- the free space of these slots and this last byte
+abbrev pub space_of : List Slot → ℕ → FreeSpace
+space_of slots end = record { heap = record { gaps = gaps_of slots; end = end }; slots = slots }
+
+-- The bytes thread the free chunks in lists as the free space remembers them.
+abbrev pub IsThreaded : FreeSpace → List ℕ → Type 0
+IsThreaded space bytes = ThreadsSlots space.heap.gaps space.slots bytes
 
 -- the gaps stand by place, behind the free table and up to the end
 pub record IsHeap (heap : Heap) : Type 0 where
@@ -41,11 +53,6 @@ pub record AreHeaps (now kept : Heap) (limit : ℕ) : Type 0 where
   pub kept_is : IsHeap kept
   pub some : 1 ≤ limit
   pub most : limit ≤ 2 ^ 32
-
--- the gaps in work, or those that were accepted where no call changed them since
-abbrev pub gaps_in : Option (Vec Extent) → List Extent → List Extent
-gaps_in None kept = kept
-gaps_in (Some work) kept = work.items
 
 -- ---- the answers
 
@@ -67,26 +74,32 @@ pub record MayGive (place n : ℕ) (heap : Heap) : Type 0 where
   pub high : place + n ≤ heap.end + 1
   pub apart : MeetsNone place n heap.gaps
 
--- why a take is refused: as other calls over bytes, or the limit is reached
+-- the same, or that the limit is reached
 abbrev pub IsTakeRefusal : Type 0 → ℕ → ℕ → AdfError → Type 0
 IsTakeRefusal unread before now (error.Full asked end) = ⊤
 IsTakeRefusal unread before now other = IsRefusal unread before now other
 
 -- ---- the bytes
 
--- the lists thread the free chunks among gaps as before
+-- the lists thread the free chunks of slots as before
 abbrev pub KeepsThreads : List ℕ → List ℕ → Type 0
-KeepsThreads old new = (gaps : List Extent) → AreApart gaps → ThreadsFreeChunks old gaps → ThreadsFreeChunks new gaps
+KeepsThreads old new = (gaps : List Extent) (slots : List Slot) → AreApart gaps → ThreadsSlots gaps slots old → ThreadsSlots gaps slots new
 
--- what calls of a space leave of the device below: its bytes and writes, and no count falls
-abbrev pub Looks : DeviceState → DeviceState → Type 0
-Looks old new = OnlyReads old new
-
--- gaps became others, the lists thread their free chunks, and their fillers hold `z` where those before did
-pub record BecomeGaps (becomes old new : List Extent) (before after : Option (List ℕ)) : Type 0 where
-  pub are : new ≡ becomes
-  pub threads : IfSome after (λ bytes. ThreadsFreeChunks bytes becomes)
-  pub fillers : Both (KeepsFillers old becomes) before after
+-- What calls of the heap change that take a range from the gaps or give one to them: a refusal leaves the free space, and its bytes
+-- change only in the end pointer, in the free table, in the gaps and in what is given.
+pub record ChangesHeap {S T : Type 0} (is_sound : S → Type 0) (image : S → Option (List ℕ)) (state : S → DeviceState) (waiting : S → ℕ) (given : List Extent) (most : ℕ)
+    (Cause : ℕ → ℕ → AdfError → Type 0) (before after : HeapState) (old new : S) (result : Result T AdfError) : Type 0 where
+  pub kept : after.kept ≡ before.kept
+  pub limit : after.limit ≡ before.limit
+  pub refused : OnErr result (after.work ≡ before.work)
+  pub heap : IsHeap after.work.heap
+  pub pairs : pairs after.work.heap.gaps ≤ pairs before.work.heap.gaps
+  pub threads : OnOk result (IfSome (image new) (IsThreaded after.work))
+  pub first : OnOk result (IfSome (image new) (AreFirst before.work.heap.gaps after.work.heap.gaps))
+  pub bytes : Both (ChangesOnly (heap_fields ++ given ++ before.work.heap.gaps)) (image old) (image new)
+  pub end : OnOk result (Both (MovesEnd before.work.heap.end after.work.heap.end) (image old) (image new))
+  pub fillers : OnOk result (Both (KeepsFillers before.work.heap.gaps after.work.heap.gaps) (image old) (image new))
+  pub calls : AnswersWrite is_sound state waiting most (ReadsFew 64) Cause old new result
 
 -- ---- tiles
 

@@ -1,4 +1,5 @@
 pub mod Gaps
 pub mod Links
+pub mod Slots
 pub mod Heap
 pub mod Beside

@@ -1,5 +1,5 @@
 -- The lists of free chunks in the bytes: where a pointer to a free chunk stands, and what the parts of a call write.
-use Rattle.std.specs.Prelude.{codes, ◌≡◌, ◌≢◌, ℕ, ◌+◌, ◌-◌, ◌<◌, ◌≤◌, ◌^◌, get_or, List, [], ◌∷◌, ◌++◌, length, filter, Option, Some, None, ⊤}
+use Rattle.std.specs.Prelude.{codes, ◌≡◌, ℕ, ◌+◌, ◌-◌, ◌<◌, ◌≤◌, ◌^◌, nat_lt, if◌then◌else◌, get_or, slice_set, List, [], ◌∷◌, ◌++◌, length, filter, Option, Some, None, ⊤}
 use Rattle.std.specs.List.{AllByRecursion}
 use Rattle.adf_format.specs.declared.types.Extent.{Extent}
 use Rattle.adf_format.specs.declared.types.ExtentKind.{ExtentKind}
@@ -11,10 +11,11 @@ use Rattle.adf_format.specs.Spelled.{pointer_to}
 use Rattle.adf_format.specs.Tiles.{cover, end_of, is_free, MeetsNone}
 use Rattle.adf_format.specs.Parts.{HasPointer}
 use Rattle.adf_format.specs.Placement.{extent}
-use Rattle.adf_format.specs.LaysOut.{ThreadsFreeChunks, AreGapsInOrder, count_of, last_place}
+use Rattle.adf_format.specs.LaysOut.{ThreadsFreeChunks, AreGapsInOrder, first_place, last_place}
 use Rattle.adf_format.specs.Changes.{Writes}
 use Rattle.adf_format.specs.HeapRule.{new_gap}
-use Rattle.file_heap.specs.declared.lists.Spot.{Spot}
+use Rattle.gap_tree.specs.declared.slot.Class.{Class}
+use Rattle.gap_tree.specs.declared.slot.Class.TheVariants.{Small, Medium, Large}
 
 -- where the pointer to the chunk behind another stands, or that to the first of list k
 abbrev pub link_at : ℕ → Option ℕ → ℕ
@@ -52,9 +53,22 @@ pub record AreApart (gaps : List Extent) : Type 0 where
   pub low : (b : ℕ) → b < 266 → cover gaps b ≡ 0
   pub high : (b : ℕ) → 2 ^ 44 ≤ b → cover gaps b ≡ 0
 
+-- the number of a list in the free table
+abbrev pub number_of : Class → ℕ
+number_of Small = 0
+number_of Medium = 1
+number_of Large = 2
+
+-- the list that a new free chunk of this length is put into
+abbrev pub class_of : ℕ → Class
+class_of n = if nat_lt n 512 then Small else if nat_lt n 4096 then Medium else Large
+
 -- the lists that the bytes thread
+abbrev pub lists_of : {bytes : List ℕ} {gaps : List Extent} → ThreadsFreeChunks bytes gaps → List (List Extent)
+lists_of t = t.small ∷ t.medium ∷ t.large ∷ []
+
 abbrev pub list_of : {bytes : List ℕ} {gaps : List Extent} → ThreadsFreeChunks bytes gaps → ℕ → List Extent
-list_of t k = get_or (t.small ∷ t.medium ∷ t.large ∷ []) k []
+list_of t k = get_or (lists_of t) k []
 
 -- a chunk of the list stands at the place, behind the one in front
 pub record IsBehind (fs : List Extent) (place : ℕ) (front : Option ℕ) : Type 0 where
@@ -65,35 +79,10 @@ pub record IsBehind (fs : List Extent) (place : ℕ) (front : Option ℕ) : Type
   pub here : chunk.place ≡ place
   pub follows : front ≡ last_place before
 
--- none of the chunks stands at the place
-abbrev pub NoneAt : ℕ → List Extent → Type 0
-NoneAt place fs = AllByRecursion (λ (f : Extent). f.place ≢ place) fs
-
--- some chunks of the list are passed, none of which stands at the place
-pub record HasPassed (fs : List Extent) (place : ℕ) (front : Option ℕ) (count : ℕ) : Type 0 where
-  pub before : List Extent
-  pub after : List Extent
-  pub is : fs ≡ before ++ after
-  pub follows : front ≡ last_place before
-  pub long : length before ≡ count
-  pub none : NoneAt place before
-
-abbrev pub IsFound : List Extent → ℕ → Option Spot → Type 0
-IsFound fs place (Some spot) = IsBehind fs place spot.front
-IsFound fs place None = NoneAt place fs
-
--- a spot of this list, within the greatest place
-abbrev pub IsSpotIn : ℕ → Option Spot → Type 0
-IsSpotIn list None = ⊤
-IsSpotIn list (Some spot) = (spot.list ≡ list) × HasHead spot.front
-
--- what stands in front of the chunk at a place, in the list of the spot
-abbrev pub IsSpotOf : {bytes : List ℕ} {gaps : List Extent} → ThreadsFreeChunks bytes gaps → ℕ → Spot → Type 0
-IsSpotOf t place spot = IsBehind (list_of t spot.list) place spot.front
-
--- a free chunk stands at the place
-abbrev pub IsFreeAt : ℕ → List Extent → Type 0
-IsFreeAt place gaps = (n : ℕ) × (0 < count_of place n (filter is_free gaps))
+-- the bytes thread these lists
+pub record ThreadsThese (bytes : List ℕ) (gaps : List Extent) (lists : List (List Extent)) : Type 0 where
+  pub threads : ThreadsFreeChunks bytes gaps
+  pub are : (k : ℕ) → k < 3 → list_of threads k ≡ get_or lists k []
 
 -- the gaps stand by place, behind the free table and below the greatest place
 pub record AreGaps (gaps : List Extent) : Type 0 where
@@ -101,6 +90,9 @@ pub record AreGaps (gaps : List Extent) : Type 0 where
   pub within : AllByRecursion (λ (g : Extent). (266 ≤ g.place) × (end_of g ≤ 2 ^ 44)) gaps
 
 -- ---- what is written
+
+abbrev pub range : ℕ → ℕ → Extent
+range place length = extent ExtentKind.FreeChunk place length
 
 -- list k ends at the chunk in front from now on, where nothing is behind that
 abbrev pub EndsList : ℕ → Option ℕ → Option ℕ → List ℕ → List ℕ → Type 0
@@ -128,15 +120,25 @@ pub record Pushes (place length k : ℕ) (first : Option ℕ) (old new : List �
   pub link : Writes (link_at k None) (pointer_text (To place)) whole linked
   pub last : EndsList k first (Some place) linked new
 
--- a gap is written: a filler's bytes, or a free chunk that joins the free chunks in the lists
-pub record WritesGap (place length : ℕ) (old new : List ℕ) : Type 0 where
-  pub threads : (gaps : List Extent) → MeetsNone place length (filter is_free gaps) → MeetsNone FREE_TABLE_PLACE FREE_TABLE_LENGTH (filter is_free gaps) → 266 ≤ place → ThreadsFreeChunks old gaps → ThreadsFreeChunks new (new_gap place length ∷ gaps)
+-- the lists after a gap was written: a filler is in none, and a free chunk is the first of its class
+abbrev pub listed : ℕ → ℕ → List (List Extent) → List (List Extent)
+listed place n lists =
+    if nat_lt n 32 then lists
+    else slice_set lists (number_of (class_of n)) (range place n ∷ get_or lists (number_of (class_of n)) [])
+
+-- the bytes thread the gap too, in front of the chunk that was the first of its class
+pub record ListsGap {old : List ℕ} {gaps : List Extent} (place length : ℕ) (first : Option ℕ) (t : ThreadsFreeChunks old gaps) (new : List ℕ) : Type 0 where
+  pub these : ThreadsThese new (new_gap place length ∷ gaps) (listed place length (lists_of t))
+  pub was_first : 32 ≤ length → first ≡ first_place (list_of t (number_of (class_of length)))
+
+-- a gap is written: a filler's bytes, or a free chunk in front of the first of its class
+pub record WritesGap (place length : ℕ) (first : Option ℕ) (old new : List ℕ) : Type 0 where
+  pub threads : (gaps : List Extent) → MeetsNone place length (filter is_free gaps) → MeetsNone FREE_TABLE_PLACE FREE_TABLE_LENGTH (filter is_free gaps) → 266 ≤ place
+      → (t : ThreadsFreeChunks old gaps) → ListsGap place length first t new
   pub fills : length < 32 → (b : ℕ) → place ≤ b → b < place + length → get_or new b 0 ≡ 122
+  pub unlisted : length < 32 → first ≡ None
 
 -- ---- what may change
-
-abbrev pub range : ℕ → ℕ → Extent
-range place length = extent ExtentKind.FreeChunk place length
 
 abbrev pub free_table : Extent
 free_table = extent ExtentKind.FreeTable FREE_TABLE_PLACE FREE_TABLE_LENGTH

@@ -1,142 +1,152 @@
-// A range is given to gaps: it is joined with those beside it, and written.
-ghost use Rattle.std.specs.Prelude.{◌≡◌, ◌^◌, ◌+◌, ◌≤◌, ◌<◌, ◌∷◌, [], length, filter, remove, IfErr, IfSome, OnOk};
-ghost use Rattle.cg_io.specs.Blocks.{Both};
+// Gaps leave the lists and join them, in memory and in the space. A range is given: it is joined with the gaps beside it, and written.
+ghost use Rattle.std.specs.Prelude.{◌≡◌, ◌^◌, ◌+◌, ◌≤◌, ◌<◌, ◌∷◌, [], length, filter, remove, IfOk, IfErr, IfSome};
+ghost use Rattle.cg_io.specs.Blocks.{Both, ReadsFew};
+ghost use Rattle.cg_io.specs.Answers.{IsRefusal, IsUntold};
 ghost use Rattle.adf_format.specs.Tiles.{is_free, MeetsNone};
-ghost use Rattle.adf_format.specs.LaysOut.{ThreadsFreeChunks};
 ghost use Rattle.adf_format.specs.HeapRule.{new_gap, give_joined};
-ghost use Rattle.file_heap.specs.Gaps.{put_by_place, give_right, NoneEnds};
+ghost use Rattle.gap_tree.specs.Slots.{gaps_of};
+ghost use Rattle.file_heap.specs.Gaps.{put_by_place, give_right};
 ghost use Rattle.file_heap.specs.Links.{AreGaps, range, free_table};
-ghost use Rattle.file_heap.specs.Heap.{IsUntold, IsRefusal, ChangesOnly, BecomeGaps, Looks};
+ghost use Rattle.file_heap.specs.Slots.{BecomeSlots, ThreadsSlots};
+ghost use Rattle.file_heap.specs.Heap.{ChangesOnly};
 
-use crate::gaps::{find_begin, find_end, gap_of, is_free, new_gap, put_in};
-use crate::lists::{unlink, write_gap};
-use adf_chunks::Extent;
+use crate::lists::{class_of, unlink, write_gap};
+use crate::slots::{
+    find_begin, find_end, gap_of, in_no_list, is_free, move_to, new_gap, or_memory, put_in,
+};
 use adf_model::AdfError;
 use cg_io::Space;
+use gap_tree::{Slot, Spot, Tree};
+use std::alloc::Global;
+use std::rc::Rc;
 
-// A gap leaves the list that has it, where it is a free chunk.
-#[tactic(auto, using(crate::proofs::HeapFacts::gaps_apart, crate::proofs::HeapFacts::gaps_short, crate::proofs::HeapFacts::free_long, crate::proofs::SpaceLaws::unlisted_threads, crate::proofs::ChangeLaws::changes_none))]
-fn leave_list<S: Space>(space: &mut S, gaps: &[Extent], i: usize) -> Result<(), AdfError>
-    requires sound { S.is_sound space.old }
-    requires inside { i < length gaps.now }
-    requires gaps { AreGaps gaps.now }
-    requires threads { IfSome (S.image space.old) (λ bytes. ThreadsFreeChunks bytes gaps.now) }
-    ensures sound { S.is_sound space.new }
-    ensures threads { OnOk result (IfSome (S.image space.new) (λ bytes. ThreadsFreeChunks bytes (remove gaps.now i))) }
-    ensures bytes { Both (ChangesOnly (free_table ∷ filter is_free gaps.now)) (S.image space.old) (S.image space.new) }
-    ensures effect { Looks (S.state space.old) (S.state space.new) }
-    ensures waiting { S.waiting space.new ≤ S.waiting space.old + 3 }
-    ensures cause { IfErr result (IsRefusal (IsUntold (S.image space.old)) (S.state space.old).faults (S.state space.new).faults) }
-{
-    if !is_free(gap_of(gaps, i)) {
-        return Ok(());
-    }
-    unlink(space, gaps, i)
-}
-
-// Takes a gap out of the gaps, and out of the list that has it.
-fn absorb<S: Space>(space: &mut S, gaps: &mut Vec<Extent>, i: usize) -> Result<(), AdfError>
-    requires sound { S.is_sound space.old }
-    requires inside { i < length gaps.old.items }
-    requires gaps { AreGaps gaps.old.items }
-    requires threads { IfSome (S.image space.old) (λ bytes. ThreadsFreeChunks bytes gaps.old.items) }
-    ensures sound { S.is_sound space.new }
-    ensures items { OnOk result (gaps.new.items ≡ remove gaps.old.items i) }
-    ensures threads { OnOk result (IfSome (S.image space.new) (λ bytes. ThreadsFreeChunks bytes (remove gaps.old.items i))) }
-    ensures bytes { Both (ChangesOnly (free_table ∷ filter is_free gaps.old.items)) (S.image space.old) (S.image space.new) }
-    ensures effect { Looks (S.state space.old) (S.state space.new) }
-    ensures waiting { S.waiting space.new ≤ S.waiting space.old + 3 }
-    ensures cause { IfErr result (IsRefusal (IsUntold (S.image space.old)) (S.state space.old).faults (S.state space.new).faults) }
-{
-    leave_list(space, gaps, i)?;
-    gaps.remove(i);
-    Ok(())
-}
-
-// Writes a range as a gap of its own.
-fn give_alone<S: Space>(
+/// Takes a gap out of the gaps, and out of the list that has it.
+#[tactic(auto, using(crate::proofs::SlotSteps::has_spot, crate::proofs::SlotSteps::filler_gaps, crate::proofs::SlotSteps::chunk_gaps, crate::proofs::SlotSteps::filler_leaves, crate::proofs::SlotSteps::chunk_leaves, crate::proofs::SlotSteps::spot_is_there, crate::proofs::ChangeLaws::changes_none))]
+pub(crate) fn absorb<S: Space>(
     space: &mut S,
-    gaps: &mut Vec<Extent>,
+    alloc: Global,
+    slots: &Rc<Tree>,
+    i: usize,
+) -> Result<Rc<Tree>, AdfError>
+    requires sound { S.is_sound space.old }
+    requires inside { i < length slots.now.value }
+    requires gaps { AreGaps (gaps_of slots.now.value) }
+    requires threads { IfSome (S.image space.old) (ThreadsSlots (gaps_of slots.now.value) slots.now.value) }
+    ensures sound { S.is_sound space.new }
+    ensures gaps { IfOk result (λ rest. gaps_of rest.value ≡ remove (gaps_of slots.now.value) i) }
+    ensures threads { IfOk result (λ rest. IfSome (S.image space.new) (ThreadsSlots (gaps_of rest.value) rest.value)) }
+    ensures bytes { Both (ChangesOnly (free_table ∷ filter is_free (gaps_of slots.now.value))) (S.image space.old) (S.image space.new) }
+    ensures effect { ReadsFew 6 (S.state space.old) (S.state space.new) }
+    ensures waiting { S.waiting space.new ≤ S.waiting space.old + 3 }
+    ensures cause { IfErr result (IsRefusal (IsUntold (S.image space.old)) (S.state space.old).faults (S.state space.new).faults) }
+{
+    let slot = slots.get(i);
+    if !is_free(slot.gap) {
+        return or_memory(slots.removed(alloc, i));
+    }
+    let Some(spot) = slot.spot else {
+        return Err(in_no_list(slot.gap.place));
+    };
+    let next = unlink(space, slots, i, spot)?;
+    let moved = move_to(alloc, slots, next, spot)?;
+    or_memory(moved.removed(alloc, i))
+}
+
+/// Writes a range as a gap of its own.
+#[tactic(auto, using(crate::proofs::SlotSteps::moved_order, crate::proofs::SlotSteps::none_untold, crate::proofs::SlotSteps::first_missing))]
+pub(crate) fn give_alone<S: Space>(
+    space: &mut S,
+    alloc: Global,
+    slots: &Rc<Tree>,
     place: u64,
     n: u64,
-) -> Result<(), AdfError>
+) -> Result<Rc<Tree>, AdfError>
     requires sound { S.is_sound space.old }
-    requires gaps { AreGaps gaps.old.items }
-    requires apart { MeetsNone place n gaps.old.items }
+    requires gaps { AreGaps (gaps_of slots.now.value) }
+    requires some { 1 ≤ n }
+    requires apart { MeetsNone place n (gaps_of slots.now.value) }
     requires low { 266 ≤ place }
     requires high { place + n ≤ 2 ^ 44 }
-    requires threads { IfSome (S.image space.old) (λ bytes. ThreadsFreeChunks bytes gaps.old.items) }
+    requires threads { IfSome (S.image space.old) (ThreadsSlots (gaps_of slots.now.value) slots.now.value) }
     ensures sound { S.is_sound space.new }
-    ensures given { OnOk result (BecomeGaps (put_by_place (new_gap place n) gaps.old.items) gaps.old.items gaps.new.items (S.image space.old) (S.image space.new)) }
+    ensures given { IfOk result (λ more. BecomeSlots (put_by_place (new_gap place n) (gaps_of slots.now.value)) slots.now.value more.value (S.image space.old) (S.image space.new)) }
     ensures bytes { Both (ChangesOnly (free_table ∷ range place n ∷ [])) (S.image space.old) (S.image space.new) }
-    ensures effect { Looks (S.state space.old) (S.state space.new) }
+    ensures effect { ReadsFew 10 (S.state space.old) (S.state space.new) }
     ensures waiting { S.waiting space.new ≤ S.waiting space.old + 6 }
     ensures cause { IfErr result (IsRefusal (IsUntold (S.image space.old)) (S.state space.old).faults (S.state space.new).faults) }
 {
-    if gaps.reserve(1).is_err() {
-        return Err(AdfError::Memory);
-    }
-    write_gap(space, place, n)?;
-    put_in(gaps, new_gap(place, n));
-    Ok(())
+    let first = write_gap(space, place, n)?;
+    let list = class_of(n);
+    let behind = Spot {
+        list,
+        front: Some(place),
+    };
+    let moved = move_to(alloc, slots, first, behind)?;
+    let slot = Slot {
+        gap: new_gap(place, n),
+        spot: Some(Spot { list, front: None }),
+    };
+    or_memory(put_in(alloc, &moved, slot))
 }
 
 // Joins a range, which no gap ends just before, with the gap that begins just behind it.
 #[tactic(auto, using(crate::proofs::SpaceLaws::alone_changes))]
 fn give_right<S: Space>(
     space: &mut S,
-    gaps: &mut Vec<Extent>,
+    alloc: Global,
+    slots: &Rc<Tree>,
     place: u64,
     n: u64,
-) -> Result<(), AdfError>
+) -> Result<Rc<Tree>, AdfError>
     requires sound { S.is_sound space.old }
-    requires gaps { AreGaps gaps.old.items }
+    requires gaps { AreGaps (gaps_of slots.now.value) }
     requires some { 1 ≤ n }
-    requires apart { MeetsNone place n gaps.old.items }
+    requires apart { MeetsNone place n (gaps_of slots.now.value) }
     requires low { 266 ≤ place }
     requires high { place + n ≤ 2 ^ 44 }
-    requires threads { IfSome (S.image space.old) (λ bytes. ThreadsFreeChunks bytes gaps.old.items) }
+    requires threads { IfSome (S.image space.old) (ThreadsSlots (gaps_of slots.now.value) slots.now.value) }
     ensures sound { S.is_sound space.new }
-    ensures given { OnOk result (BecomeGaps (give_right place n gaps.old.items) gaps.old.items gaps.new.items (S.image space.old) (S.image space.new)) }
-    ensures bytes { Both (ChangesOnly (free_table ∷ range place n ∷ gaps.old.items)) (S.image space.old) (S.image space.new) }
-    ensures effect { Looks (S.state space.old) (S.state space.new) }
+    ensures given { IfOk result (λ more. BecomeSlots (give_right place n (gaps_of slots.now.value)) slots.now.value more.value (S.image space.old) (S.image space.new)) }
+    ensures bytes { Both (ChangesOnly (free_table ∷ range place n ∷ gaps_of slots.now.value)) (S.image space.old) (S.image space.new) }
+    ensures effect { ReadsFew 16 (S.state space.old) (S.state space.new) }
     ensures waiting { S.waiting space.new ≤ S.waiting space.old + 9 }
     ensures cause { IfErr result (IsRefusal (IsUntold (S.image space.old)) (S.state space.old).faults (S.state space.new).faults) }
 {
-    let Some(i) = find_begin(gaps, place + n) else {
-        return give_alone(space, gaps, place, n);
+    let Some(i) = find_begin(slots, place + n) else {
+        return give_alone(space, alloc, slots, place, n);
     };
-    let gap = gap_of(gaps, i);
-    absorb(space, gaps, i)?;
-    give_alone(space, gaps, place, n + gap.length)
+    let length = gap_of(slots, i).length;
+    let rest = absorb(space, alloc, slots, i)?;
+    give_alone(space, alloc, &rest, place, n + length)
 }
 
 /// Joins a range with the gap that ends just before it and with the gap that begins just behind it.
 #[tactic(auto, using(crate::proofs::HeapFacts::gaps_short))]
 pub(crate) fn give_range<S: Space>(
     space: &mut S,
-    gaps: &mut Vec<Extent>,
+    alloc: Global,
+    slots: &Rc<Tree>,
     place: u64,
     n: u64,
-) -> Result<(), AdfError>
+) -> Result<Rc<Tree>, AdfError>
     requires sound { S.is_sound space.old }
-    requires gaps { AreGaps gaps.old.items }
+    requires gaps { AreGaps (gaps_of slots.now.value) }
     requires some { 1 ≤ n }
-    requires apart { MeetsNone place n gaps.old.items }
+    requires apart { MeetsNone place n (gaps_of slots.now.value) }
     requires low { 266 ≤ place }
     requires high { place + n ≤ 2 ^ 44 }
-    requires threads { IfSome (S.image space.old) (λ bytes. ThreadsFreeChunks bytes gaps.old.items) }
+    requires threads { IfSome (S.image space.old) (ThreadsSlots (gaps_of slots.now.value) slots.now.value) }
     ensures sound { S.is_sound space.new }
-    ensures given { OnOk result (BecomeGaps (give_joined place n gaps.old.items) gaps.old.items gaps.new.items (S.image space.old) (S.image space.new)) }
-    ensures bytes { Both (ChangesOnly (free_table ∷ range place n ∷ gaps.old.items)) (S.image space.old) (S.image space.new) }
-    ensures effect { Looks (S.state space.old) (S.state space.new) }
+    ensures given { IfOk result (λ more. BecomeSlots (give_joined place n (gaps_of slots.now.value)) slots.now.value more.value (S.image space.old) (S.image space.new)) }
+    ensures bytes { Both (ChangesOnly (free_table ∷ range place n ∷ gaps_of slots.now.value)) (S.image space.old) (S.image space.new) }
+    ensures effect { ReadsFew 22 (S.state space.old) (S.state space.new) }
     ensures waiting { S.waiting space.new ≤ S.waiting space.old + 12 }
     ensures cause { IfErr result (IsRefusal (IsUntold (S.image space.old)) (S.state space.old).faults (S.state space.new).faults) }
 {
-    let Some(i) = find_end(gaps, place) else {
-        return give_right(space, gaps, place, n);
+    let Some(i) = find_end(slots, place) else {
+        return give_right(space, alloc, slots, place, n);
     };
-    let gap = gap_of(gaps, i);
-    absorb(space, gaps, i)?;
-    give_right(space, gaps, gap.place, gap.length + n)
+    let gap = gap_of(slots, i);
+    let rest = absorb(space, alloc, slots, i)?;
+    give_right(space, alloc, &rest, gap.place, gap.length + n)
 }

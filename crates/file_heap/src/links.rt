@@ -1,17 +1,20 @@
-// Pointers and bytes in a space.
-ghost use Rattle.std.specs.Prelude.{◌≡◌, ℕ, ◌∷◌, [], ◌^◌, ◌+◌, ◌*◌, ◌≤◌, ◌<◌, length, IfOk, IfErr, OnOk};
-ghost use Rattle.cg_io.specs.Blocks.{Both, blocks_of};
+// Pointers to free chunks in a space.
+ghost use Rattle.std.specs.Prelude.{◌≡◌, ℕ, ◌∷◌, [], ◌^◌, ◌+◌, ◌≤◌, IfOk, IfErr, OnOk};
+ghost use Rattle.cg_io.specs.Blocks.{Both, ReadsFew};
+ghost use Rattle.cg_io.specs.Answers.{IsRefusal};
 ghost use Rattle.disk_ptr.specs.View.{view, HasOffset};
 ghost use Rattle.adf_format.specs.Pointer.{pointer_text};
 ghost use Rattle.adf_format.specs.Spelled.{pointer_to, IsInReach};
 ghost use Rattle.adf_format.specs.Changes.{Writes};
-ghost use Rattle.file_heap.specs.Links.{link_at, Follows, PointsNowhere, HasHead, range};
+ghost use Rattle.file_heap.specs.Links.{link_at, Follows, PointsNowhere, HasHead, range, number_of};
 ghost use Rattle.adf_format.specs.RuleNumbers.{IsRule};
 ghost use Rattle.file_heap.specs.Heap.{ChangesOnly, Looks, IsRefusal};
 
 use adf_model::AdfError;
-use cg_io::{Space, SpaceFault};
-use disk_ptr::{DiskPtr, decode, encode, from_place, place as place_named};
+use cg_io::Space;
+use disk_ptr::{DiskPtr, from_place, place as place_named};
+use field_access::{read_pointer, write_pointer};
+use gap_tree::Class;
 
 /// The pointer to a place, or the blank one.
 pub(crate) fn pointer_of(place: Option<u64>) -> DiskPtr
@@ -34,35 +37,27 @@ fn place_of(pointer: DiskPtr) -> Option<u64>
     place_named(pointer)
 }
 
-/// Where the pointer to the chunk behind another stands, or the pointer to the first of the list.
-pub(crate) fn link_at(list: u64, front: Option<u64>) -> u64
-    requires list { list < 3 }
-    requires head { HasHead front }
-    ensures place { result ≡ link_at list front }
-    ensures within { result + 12 ≤ 2 ^ 44 }
+/// Where the pointer to the first of a list stands.
+pub(crate) fn first_at(list: Class) -> u64
+    ensures place { result ≡ link_at (number_of list) None }
+    ensures table { result + 24 ≤ 262 }
 {
-    match front {
-        None => 190 + 24 * list,
-        Some(front) => front + 16,
+    match list {
+        Class::Small => 190,
+        Class::Medium => 214,
+        Class::Large => 238,
     }
 }
 
-/// Writes bytes at a place.
-#[tactic(auto, using(crate::proofs::Images::all_written, crate::proofs::Images::all_changed, crate::proofs::Images::refused_changed))]
-pub(crate) fn write_bytes<S: Space>(space: &mut S, at: u64, bytes: &[u8]) -> Result<(), AdfError>
-    requires sound { S.is_sound space.old }
-    requires within { at + length bytes.now ≤ 2 ^ 44 }
-    ensures sound { S.is_sound space.new }
-    ensures written { OnOk result (Both (Writes at bytes.now) (S.image space.old) (S.image space.new)) }
-    ensures bytes { Both (ChangesOnly (range at (length bytes.now) ∷ [])) (S.image space.old) (S.image space.new) }
-    ensures effect { Looks (S.state space.old) (S.state space.new) }
-    ensures waiting { S.waiting space.new ≤ S.waiting space.old + blocks_of at (length bytes.now) }
-    ensures cause { IfErr result (IsRefusal ⊥ (S.state space.old).faults (S.state space.new).faults) }
+/// Where the pointer to the chunk behind another stands, or the pointer to the first of the list.
+pub(crate) fn link_at(list: Class, front: Option<u64>) -> u64
+    requires { HasHead front }
+    ensures place { result ≡ link_at (number_of list) front }
+    ensures within { result + 12 ≤ 2 ^ 44 }
 {
-    match space.write(at, bytes) {
-        Ok(()) => Ok(()),
-        Err(SpaceFault::Memory) => Err(AdfError::Memory),
-        Err(SpaceFault::Read) => Err(AdfError::ReadFault),
+    match front {
+        None => first_at(list),
+        Some(front) => front + 16,
     }
 }
 
@@ -79,12 +74,12 @@ pub(crate) fn write_link<S: Space>(
     ensures sound { S.is_sound space.new }
     ensures written { OnOk result (Both (Writes at (pointer_text (pointer_to next))) (S.image space.old) (S.image space.new)) }
     ensures bytes { Both (ChangesOnly (range at 12 ∷ [])) (S.image space.old) (S.image space.new) }
-    ensures effect { Looks (S.state space.old) (S.state space.new) }
+    ensures effect { ReadsFew 2 (S.state space.old) (S.state space.new) }
     ensures waiting { S.waiting space.new ≤ S.waiting space.old + 2 }
     ensures near { at + 12 ≤ 4096 → S.waiting space.new ≤ S.waiting space.old + 1 }
     ensures cause { IfErr result (IsRefusal ⊥ (S.state space.old).faults (S.state space.new).faults) }
 {
-    write_bytes(space, at, &encode(pointer_of(next)))
+    write_pointer(space, at, pointer_of(next))
 }
 
 // What stands in the free table or in a free chunk is no pointer.
@@ -98,7 +93,7 @@ fn no_pointer(at: u64) -> AdfError
 }
 
 /// The free chunk that a pointer names, or none where it is blank.
-#[tactic(auto, using(crate::proofs::Images::follows, crate::proofs::Images::points_nowhere))]
+#[tactic(auto, using(crate::proofs::Images::follows, crate::proofs::Images::points_nowhere, crate::proofs::Waiting::few_blocks))]
 pub(crate) fn read_link<S: Space>(space: &mut S, at: u64) -> Result<Option<u64>, AdfError>
     requires sound { S.is_sound space.old }
     requires within { at + 12 ≤ 2 ^ 44 }
@@ -106,16 +101,13 @@ pub(crate) fn read_link<S: Space>(space: &mut S, at: u64) -> Result<Option<u64>,
     ensures image { S.image space.new ≡ S.image space.old }
     ensures told { IfOk result (Follows (S.image space.old) at) }
     ensures reach { IfOk result IsInReach }
-    ensures effect { Looks (S.state space.old) (S.state space.new) }
+    ensures effect { ReadsFew 2 (S.state space.old) (S.state space.new) }
     ensures waiting { S.waiting space.new ≡ S.waiting space.old }
     ensures cause { IfErr result (IsRefusal (PointsNowhere (S.image space.old) at) (S.state space.old).faults (S.state space.new).faults) }
 {
-    let mut text = [0u8; 12];
-    match space.read(at, &mut text) {
-        Ok(()) => match decode(&text) {
-            Some(pointer) => Ok(place_of(pointer)),
-            None => Err(no_pointer(at)),
-        },
+    match read_pointer(space, at) {
+        Ok(Some(pointer)) => Ok(place_of(pointer)),
+        Ok(None) => Err(no_pointer(at)),
         Err(_) => Err(AdfError::ReadFault),
     }
 }

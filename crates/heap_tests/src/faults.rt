@@ -36,7 +36,7 @@ fn each_call_may_fail(rt: &impl Abort, alloc: Global, memory: bool) -> Result<()
         space = before.copy(alloc)?;
         space.memory = memory;
         space.failing = k;
-        match run(rt, &mut heap, &mut space, &CALLS) {
+        match run(rt, alloc, &mut heap, &mut space, &CALLS) {
             Ok(()) => {
                 assert!(rt; space.calls < k);
                 return Ok(());
@@ -45,7 +45,7 @@ fn each_call_may_fail(rt: &impl Abort, alloc: Global, memory: bool) -> Result<()
             Err(error) => assert!(rt; is_fault(error, &space)),
         }
         undo(&mut heap);
-        assert!(rt; has_gaps(&heap, &CHUNK_GAPS));
+        assert!(rt; has_gaps(alloc, &heap, &CHUNK_GAPS));
         assert!(rt; ends_at(&heap, 9999));
     }
     Err("more calls than were to fail")?
@@ -82,11 +82,11 @@ fn run_again(
     steps: &[Step],
 ) -> Result<(), Fail> {
     let before = space.copy(alloc)?;
-    if let Err(error) = run(rt, heap, space, steps) {
+    if let Err(error) = run(rt, alloc, heap, space, steps) {
         assert!(rt; error == AdfError::Memory);
         *space = before;
         undo(heap);
-        assert!(rt; run(rt, heap, space, steps).is_ok());
+        assert!(rt; run(rt, alloc, heap, space, steps).is_ok());
     }
     accept(heap);
     Ok(())

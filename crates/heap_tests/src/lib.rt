@@ -13,3 +13,5 @@ mod spaces;
 mod steps;
 #[cfg(test)]
 mod tests;
+#[cfg(test)]
+mod trees;

@@ -4,7 +4,7 @@
 use crate::conditions::are_gaps;
 use crate::lists::{has_lists, names};
 use crate::spaces::{Bytes, Gap, extents, holds};
-use adf_chunks::Extents;
+use adf_chunks::{Extent, Extents};
 use adf_model::AdfError;
 use file_heap::Heap;
 use std::alloc::Global;
@@ -23,12 +23,6 @@ pub enum Step {
     Full {
         n: u64,
         end: u64,
-    },
-    /// A take that is refused, since the bytes thread no lists.
-    Layout {
-        n: u64,
-        rule: u8,
-        place: u64,
     },
     Give {
         place: u64,
@@ -82,6 +76,14 @@ pub fn new_heap(
     Heap::new(alloc, space, gaps, end, 1)
 }
 
+/// Whether the heap of a space is refused with an error.
+pub fn is_refused_with(alloc: Global, space: &mut Bytes, gaps: &Extents, wanted: AdfError) -> bool {
+    match new_heap(alloc, space, gaps, 9999) {
+        Ok(_) => false,
+        Err(error) => error == wanted,
+    }
+}
+
 pub fn take(heap: &mut Heap, space: &mut Bytes, n: u64) -> Result<u64, AdfError> {
     if n == 0 || n >= 1 << 20 {
         return Err(NOT_CALLED);
@@ -111,9 +113,8 @@ pub fn ends_at(heap: &Heap, end: u64) -> bool {
     heap.end() == end
 }
 
-/// Whether the gaps of a heap are these, in this order.
-pub fn has_gaps(heap: &Heap, wanted: &[Gap]) -> bool {
-    let gaps = heap.gaps();
+/// Whether gaps are these, in this order.
+pub fn are_these(gaps: &[Extent], wanted: &[Gap]) -> bool {
     if gaps.len() != wanted.len() {
         return false;
     }
@@ -123,6 +124,14 @@ pub fn has_gaps(heap: &Heap, wanted: &[Gap]) -> bool {
         }
     }
     true
+}
+
+/// Whether the gaps of a heap are these, in this order.
+pub fn has_gaps(alloc: Global, heap: &Heap, wanted: &[Gap]) -> bool {
+    match heap.gaps(alloc) {
+        Ok(gaps) => are_these(gaps.items(), wanted),
+        Err(_) => false,
+    }
 }
 
 // Whether a call is refused with an error; where it wants memory, that is the answer.
@@ -141,9 +150,6 @@ fn make(heap: &mut Heap, space: &mut Bytes, step: Step) -> Result<bool, AdfError
         Step::Full { n, end } => {
             is_refused(take(heap, space, n), AdfError::Full { asked: n, end })
         }
-        Step::Layout { n, rule, place } => {
-            is_refused(take(heap, space, n), AdfError::Layout { rule, place })
-        }
         Step::Give { place, n } => {
             give(heap, space, place, n)?;
             Ok(true)
@@ -161,9 +167,9 @@ fn make(heap: &mut Heap, space: &mut Bytes, step: Step) -> Result<bool, AdfError
 }
 
 // Whether what is expected is so.
-fn is_so(heap: &Heap, space: &mut Bytes, step: Step) -> bool {
+fn is_so(alloc: Global, heap: &Heap, space: &mut Bytes, step: Step) -> bool {
     match step {
-        Step::Gaps { are } => has_gaps(heap, are),
+        Step::Gaps { are } => has_gaps(alloc, heap, are),
         Step::End { is } => ends_at(heap, is),
         Step::Last { is } => names(space, 146, Some(is)),
         Step::Lists {
@@ -179,6 +185,7 @@ fn is_so(heap: &Heap, space: &mut Bytes, step: Step) -> bool {
 /// Takes steps up to the first call that is refused, and stops the test at one that is not as expected.
 pub fn run(
     rt: &impl Abort,
+    alloc: Global,
     heap: &mut Heap,
     space: &mut Bytes,
     steps: &[Step],
@@ -188,7 +195,7 @@ pub fn run(
             assert!(rt; space.put(at, bytes), "at step {i}");
         }
         assert!(rt; make(heap, space, *step)?, "at step {i}");
-        assert!(rt; is_so(heap, space, *step), "at step {i}");
+        assert!(rt; is_so(alloc, heap, space, *step), "at step {i}");
     }
     Ok(())
 }
@@ -204,6 +211,6 @@ pub fn run_on(
 ) -> Result<(), Fail> {
     let gaps = extents(alloc, gaps)?;
     let mut heap = new_heap(alloc, &mut space, &gaps, end)?;
-    run(rt, &mut heap, &mut space, steps)?;
+    run(rt, alloc, &mut heap, &mut space, steps)?;
     Ok(())
 }

@@ -1,7 +1,8 @@
 //! Takes and gives on files made by hand, as tables of steps.
 use crate::spaces::{CHUNK_GAPS, Gap, blank, chunks, extents, nine_children};
-use crate::steps::{Step, has_gaps, new_heap, run, run_on, undo};
+use crate::steps::{Step, has_gaps, is_refused_with, new_heap, run, run_on, take, undo};
 use adf_chunks::ExtentKind::{Filler, FreeChunk};
+use adf_model::AdfError;
 use std::test::Fail;
 
 /// The one gap of the file with nine children.
@@ -310,13 +311,13 @@ fn a_hundred_calls_are_undone(rt: HostRuntime) -> Result<(), Fail> {
     let gaps = extents(rt.alloc(), &CHUNK_GAPS)?;
     let mut heap = new_heap(rt.alloc(), &mut space, &gaps, 9999)?;
     for _ in 0..25 {
-        run(&rt, &mut heap, &mut space, &A_ROUND)?;
+        run(&rt, rt.alloc(), &mut heap, &mut space, &A_ROUND)?;
     }
     undo(&mut heap);
-    assert!(rt; has_gaps(&heap, &CHUNK_GAPS));
+    assert!(rt; has_gaps(rt.alloc(), &heap, &CHUNK_GAPS));
     // the lists are those of the bytes before the calls
     space = before;
-    run(&rt, &mut heap, &mut space, &ANY_PLACE_OF_A_LIST)?;
+    run(&rt, rt.alloc(), &mut heap, &mut space, &ANY_PLACE_OF_A_LIST)?;
     Ok(())
 }
 
@@ -389,64 +390,42 @@ fn what_is_deleted_is_one_gap(rt: HostRuntime) -> Result<(), Fail> {
     )
 }
 
-/// Gaps of which the bytes do not tell.
-const NOT_THERE: [Gap; 4] = [
-    (1500, 40, FreeChunk),
-    (2000, 100, FreeChunk),
-    (3000, 600, FreeChunk),
-    (4000, 64, FreeChunk),
-];
-
-const NO_LISTS: [Step; 13] = [
-    Step::Layout {
-        n: 40,
-        rule: 30,
-        place: 1500,
-    },
-    Step::Undo,
-    Step::Put {
-        at: 1016,
-        bytes: b"0000000007D0",
-    },
-    Step::Layout {
-        n: 40,
-        rule: 30,
-        place: 1500,
-    },
-    Step::Undo,
-    Step::Put {
-        at: 1016,
-        bytes: b"FFFFFFFF0FFF",
-    },
-    Step::Layout {
-        n: 40,
-        rule: 29,
-        place: 17_592_186_044_415,
-    },
-    Step::Undo,
-    Step::Put {
-        at: 1016,
-        bytes: b"000000001001",
-    },
-    Step::Layout {
-        n: 40,
-        rule: 29,
-        place: 1016,
-    },
-    Step::Undo,
-    Step::Put {
-        at: 190,
-        bytes: b"000000002000",
-    },
-    Step::Layout {
-        n: 40,
-        rule: 10,
-        place: 190,
-    },
+/// Bytes that are put over the lists of a file, and the rule and the place that they break.
+const NO_LISTS: [(u64, &[u8; 12], u8, u64); 6] = [
+    (1016, b"000000000800", 30, 2048),
+    (1016, b"0000000007D0", 30, 190),
+    (1016, b"FFFFFFFF0FFF", 29, 17_592_186_044_415),
+    (1016, b"000000001001", 29, 1016),
+    (190, b"000000002000", 10, 190),
+    (238, b"000000000FA1", 30, 4001),
 ];
 
 #[test]
 fn bytes_that_thread_no_lists_are_refused(rt: HostRuntime) -> Result<(), Fail> {
-    let space = chunks(rt.alloc())?;
-    run_on(&rt, rt.alloc(), space, &NOT_THERE, 9999, &NO_LISTS)
+    let gaps = extents(rt.alloc(), &CHUNK_GAPS)?;
+    for (at, bytes, rule, place) in NO_LISTS {
+        let mut space = chunks(rt.alloc())?;
+        let made = space.put(at, bytes);
+        let layout = AdfError::Layout { rule, place };
+        assert!(rt;
+            made && is_refused_with(rt.alloc(), &mut space, &gaps, layout),
+            "at {at}"
+        );
+    }
+    Ok(())
+}
+
+/// A free chunk that no list has is not taken.
+#[test]
+fn a_chunk_of_no_list_is_not_taken(rt: HostRuntime) -> Result<(), Fail> {
+    let gaps = extents(rt.alloc(), &[(1500, 40, FreeChunk)])?;
+    let mut space = blank(rt.alloc(), 9999)?;
+    let mut heap = new_heap(rt.alloc(), &mut space, &gaps, 9999)?;
+    let answer = take(&mut heap, &mut space, 40);
+    let layout = AdfError::Layout {
+        rule: 30,
+        place: 1500,
+    };
+    assert!(rt; answer == Err(layout));
+    Ok(())
 }
