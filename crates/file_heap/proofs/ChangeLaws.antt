@@ -4,7 +4,7 @@ use Rattle.std.proofs.lemmas.Bool.Decides.{nat_tests}
 use Rattle.std.specs.Prelude.{Option, Some, None, IfSome}
 use Rattle.cg_io.specs.Blocks.{Both}
 use Rattle.adf_format.specs.declared.fields.TheConstants.{FREE_TABLE_PLACE}
-use Rattle.adf_format.specs.RecordFields.{list_first, list_last}
+use Rattle.adf_format.specs.RecordFields.{list_first}
 use Rattle.adf_format.specs.declared.types.Extent.{Extent}
 use Rattle.adf_format.specs.Tiles.{cover, holds_byte, end_of, is_free}
 use Rattle.adf_format.specs.LaysOut.{ThreadsFreeChunks, last_place}
@@ -56,8 +56,10 @@ link_within k (Some front) few = behind_within free_table (range (front + 16) 12
 pub link_changed : (k : ℕ) (front : Option ℕ) (old new : Option (List ℕ)) → k < 3 → Both (ChangesOnly (range (link_at k front) 12 ∷ [])) old new → Both (ChangesOnly (free_table ∷ link_range front)) old new
 link_changed k front old new few c = widened (range (link_at k front) 12 ∷ []) (free_table ∷ link_range front) old new (link_within k front few) c
 
-pub last_changed : (k : ℕ) (old new : Option (List ℕ)) → k < 3 → Both (ChangesOnly (range (list_last FREE_TABLE_PLACE k).offset 12 ∷ [])) old new → Both (ChangesOnly (free_table ∷ [])) old new
-last_changed k old new few c = widened (range (list_last FREE_TABLE_PLACE k).offset 12 ∷ []) (free_table ∷ []) old new (one_within (list_last FREE_TABLE_PLACE k).offset 12 free_table [] (omega arith) (omega (arith, few))) c
+pub last_changed : (k at : ℕ) (old new : Option (List ℕ)) → k < 3 → at ≡ link_at k None → Both (ChangesOnly (range (at + 12) 12 ∷ [])) old new → Both (ChangesOnly (free_table ∷ [])) old new
+last_changed k at old new few e c =
+    let here : at ≡ (list_first FREE_TABLE_PLACE k).offset = e in
+    widened (range (at + 12) 12 ∷ []) (free_table ∷ []) old new (one_within (at + 12) 12 free_table [] (omega (arith, here)) (omega (arith, few, here))) c
 
 pub table_then : (xs : List Extent) (a b c : Option (List ℕ)) → Both (ChangesOnly (free_table ∷ xs)) a b → Both (ChangesOnly (free_table ∷ [])) b c → Both (ChangesOnly (free_table ∷ xs)) a c
 table_then xs a b c v w = changes_then (free_table ∷ xs) a b c v (widened (free_table ∷ []) (free_table ∷ xs) b c (λ k none. let out : holds_byte free_table k ≡ false = (none_holds free_table xs k none).0 in rw out) w)

@@ -69,8 +69,8 @@ spot_is_there slots i s (Some bytes) got free none th = subst (StandsOn (lists_o
 -- what is not found is not told of
 pub missing_refused : (e : AdfError) (gaps : List Extent) (next : Option ℕ) (image : Option (List ℕ)) (a b : ℕ) → IfSome image (λ bytes. BeginsSome gaps next) → IsMissing (BeginsSome gaps next) e → IsRefusal (IsUntold image) a b e
 missing_refused error.Memory gaps next image a b begins m = tt
-missing_refused (error.Layout rule place) gaps next None a b begins m = tt
-missing_refused (error.Layout rule place) gaps next (Some bytes) a b begins m = m begins
+missing_refused (error.Layout rule place) gaps next None a b begins m = (m.0, tt)
+missing_refused (error.Layout rule place) gaps next (Some bytes) a b begins m = (m.0, m.1 begins)
 missing_refused other gaps next image a b begins m = absurd m
 
 -- ---- a gap is written

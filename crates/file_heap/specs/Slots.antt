@@ -8,6 +8,7 @@ use Rattle.adf_format.specs.Tiles.{is_free}
 use Rattle.adf_format.specs.LaysOut.{ThreadsFreeChunks, count_of, last_place}
 use Rattle.adf_format.specs.Parts.{HasPointer}
 use Rattle.adf_format.specs.RecordFields.{list_first}
+use Rattle.adf_format.specs.RuleNumbers.{IsRule}
 use Rattle.adf_format.specs.declared.fields.TheConstants.{FREE_TABLE_PLACE}
 use Rattle.gap_tree.specs.declared.slot.Slot.{Slot}
 use Rattle.gap_tree.specs.declared.slot.Spot.{Spot}
@@ -83,7 +84,7 @@ HasOneMore x old new = (s : Slot) → HasSlot new s → (s ≡ x) ⊎ HasSlot ol
 -- want of memory, or what was sought is not there
 abbrev pub IsMissing : Type 0 → AdfError → Type 0
 IsMissing There error.Memory = ⊤
-IsMissing There (error.Layout rule place) = There → ⊥
+IsMissing There (error.Layout rule place) = IsRule rule × (There → ⊥)
 IsMissing There other = ⊥
 
 -- ---- the lists as they are read

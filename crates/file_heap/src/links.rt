@@ -8,7 +8,7 @@ ghost use Rattle.adf_format.specs.Spelled.{pointer_to, IsInReach};
 ghost use Rattle.adf_format.specs.Changes.{Writes};
 ghost use Rattle.file_heap.specs.Links.{link_at, Follows, PointsNowhere, HasHead, range, number_of};
 ghost use Rattle.adf_format.specs.RuleNumbers.{IsRule};
-ghost use Rattle.file_heap.specs.Heap.{ChangesOnly, Looks, IsRefusal};
+ghost use Rattle.file_heap.specs.Heap.{ChangesOnly};
 
 use adf_model::AdfError;
 use cg_io::Space;
