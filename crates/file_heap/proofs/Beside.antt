@@ -2,17 +2,16 @@
 use Rattle.std.proofs.Common.{◌≡◌, ℕ, ◌+◌, ◌<◌, ◌≤◌, arith, List, [], ◌∷◌, ◌++◌, length, filter, refl, sym, ◌∙◌, ap, subst, true}
 use Rattle.std.proofs.lemmas.Bool.Decides.{nat_tests}
 use Rattle.std.proofs.lemmas.Option.{slice_get-get_or}
-use Rattle.std.specs.Prelude.{Option, Some, None, IfSome, slice_get}
-use Rattle.cg_io.specs.Blocks.{Both}
+use Rattle.std.specs.Prelude.{Some, None, slice_get}
 use Rattle.adf_format.specs.declared.fields.TheConstants.{FREE_TABLE_PLACE, FREE_TABLE_LENGTH}
 use Rattle.adf_format.specs.declared.types.Extent.{Extent}
 use Rattle.adf_format.specs.Fields.{field}
 use Rattle.adf_format.specs.Parts.{SpellsFree, SpellsFreeTable}
-use Rattle.adf_format.specs.Tiles.{cover, holds_byte, is_free, is_filler}
+use Rattle.adf_format.specs.Tiles.{cover, holds_byte, is_free}
 use Rattle.adf_format.specs.LaysOut.{ThreadsFreeChunks, IsThreaded, first_place, last_place}
 use Rattle.adf_format.proofs.FrameLaws.{field_kept}
 use Rattle.adf_format.proofs.HeapSteps.{cover-append}
-use Rattle.file_heap.specs.Heap.{ChangesOnly, KeepsFillers}
+use Rattle.file_heap.specs.Heap.{ChangesOnly}
 use Rattle.file_heap.specs.Links.{ThreadsThese, lists_of}
 use Rattle.file_heap.specs.Beside.{AreBeside, ListsStay, EndStays, FillersStay}
 use Rattle.file_heap.proofs.Ranges.{same_cover}

@@ -1,7 +1,7 @@
 -- What may change of the bytes in calls one after another.
-use Rattle.std.proofs.Common.{append_assoc, ◌≡◌, ℕ, refl, ◌∙◌, ap, subst, arith, List, [], ◌∷◌, ◌++◌, filter, ◌+◌, ◌<◌, ◌≤◌, false}
+use Rattle.std.proofs.Common.{append_assoc, ◌≡◌, ℕ, refl, ◌∙◌, ap, arith, List, [], ◌∷◌, ◌++◌, filter, ◌+◌, ◌<◌, ◌≤◌, false}
 use Rattle.std.proofs.lemmas.Bool.Decides.{nat_tests}
-use Rattle.std.specs.Prelude.{Option, Some, None, IfSome}
+use Rattle.std.specs.Prelude.{Option, Some, None}
 use Rattle.cg_io.specs.Blocks.{Both}
 use Rattle.adf_format.specs.declared.fields.TheConstants.{FREE_TABLE_PLACE}
 use Rattle.adf_format.specs.RecordFields.{list_first}

@@ -1,14 +1,13 @@
 -- A cut at the first gap that is long enough, and two fillers made one.
-use Rattle.std.proofs.Common.{◌≡◌, inl, inr, ℕ, zero, suc, add-one, get_or, refl, sym, ◌∙◌, ap, subst, arith, List, [], ◌∷◌, ◌++◌, length, take, drop, ◌+◌, ◌<◌, ◌≤◌, Bool, true, false}
-use Rattle.std.specs.Prelude.{None, find, ◌&&◌, ◌==◌, slice_set, remove, nat_le}
-use Rattle.std.proofs.lemmas.Bool.{cases_eq}
+use Rattle.std.proofs.Common.{◌≡◌, ℕ, zero, suc, add-one, refl, ap, arith, List, [], ◌∷◌, ◌++◌, length, take, drop, ◌+◌, ◌<◌, ◌≤◌, Bool, true, false}
+use Rattle.std.specs.Prelude.{◌&&◌, ◌==◌, slice_set, remove, nat_le}
 use Rattle.std.proofs.lemmas.Bool.Decides.{nat_tests}
 use Rattle.adf_format.specs.declared.types.Extent.{Extent}
 use Rattle.adf_format.specs.declared.types.ExtentKind.{ExtentKind}
 use Rattle.adf_format.specs.Tiles.{end_of, is_filler, is_free}
 use Rattle.adf_format.specs.Placement.{extent}
 use Rattle.adf_format.specs.HeapRule.{is_fit, before_gaps}
-use Rattle.file_heap.specs.Gaps.{IsFirstFit, NoneBefore, gap_at, no_gap}
+use Rattle.file_heap.specs.Gaps.{IsFirstFit, NoneBefore, gap_at}
 
 next_none : (n k : ℕ) (g : Extent) (gs : List Extent) → NoneBefore n (g ∷ gs) (suc k) → NoneBefore n gs k
 next_none n k g gs none j lt = none (suc j) (omega (arith, lt))

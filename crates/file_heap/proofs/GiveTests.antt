@@ -1,11 +1,10 @@
 -- Whether a range may be given to the gaps.
-use Rattle.std.proofs.Common.{◌≡◌, ◌⊎◌, inl, inr, ℕ, zero, suc, ◌+◌, ◌<◌, ◌≤◌, true, false, List, [], ◌∷◌, length, arith, max, subst}
-use Rattle.std.proofs.lemmas.Bool.{cases_lt}
+use Rattle.std.proofs.Common.{◌≡◌, ◌⊎◌, inl, inr, ℕ, zero, suc, ◌+◌, ◌<◌, ◌≤◌, true, false, List, [], ◌∷◌, length, arith, max}
 use Rattle.std.proofs.lemmas.Bool.Decides.{nat_tests}
 use Rattle.adf_format.specs.declared.types.Extent.{Extent}
 use Rattle.adf_format.specs.Tiles.{cover, end_of, holds_byte, MeetsNone}
 use Rattle.adf_format.specs.LaysOut.{AreGapsInOrder}
-use Rattle.file_heap.specs.Gaps.{gap_at, IsBesideGap, AreBesideBefore}
+use Rattle.file_heap.specs.Gaps.{gap_at, IsBesideGap}
 
 off : (g : Extent) (place n b : ℕ) → (end_of g ≤ place) ⊎ (place + n ≤ g.place) → place ≤ b → b < place + n → holds_byte g b ≡ false
 off g place n b (inl h) low high = grind (arith, nat_tests, h, low)

@@ -1,5 +1,5 @@
 -- A pointer that was read, where the bytes are told.
-use Rattle.std.proofs.Common.{◌≡◌, ℕ, refl, ◌∙◌, ap, List, ◌+◌, ◌≤◌}
+use Rattle.std.proofs.Common.{◌≡◌, ℕ, refl, ◌∙◌, ap, List}
 use Rattle.std.specs.Prelude.{Option, Some, None}
 use Rattle.adf_format.specs.Fields.{field}
 use Rattle.adf_format.specs.Pointer.{Pointer, pointer}

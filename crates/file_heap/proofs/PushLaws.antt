@@ -25,7 +25,7 @@ use Rattle.adf_format.proofs.HexLaws.{pointer-pointer_text}
 use Rattle.adf_format.proofs.FieldLaws.{get_field, field_beside, field_written, field_left, field_right, field_whole, inner_field, length-field}
 use Rattle.adf_format.proofs.SpelledParts.{says_pointer, length-pointer_text}
 use Rattle.file_heap.specs.Heap.{ChangesOnly}
-use Rattle.file_heap.specs.Links.{PointsNowhere, ThreadsNone, ThreadsThese, ListsGap, Follows, EndsList, Relinks, WritesChunk, WritesGap, Pushes, list_of, lists_of, listed, number_of, class_of, link_at, range, free_table}
+use Rattle.file_heap.specs.Links.{PointsNowhere, ThreadsNone, ThreadsThese, Follows, EndsList, Relinks, WritesChunk, WritesGap, Pushes, list_of, lists_of, number_of, class_of, link_at, range, free_table}
 use Rattle.file_heap.proofs.Ranges.{flat, here, cover_set, count_set, same_cover}
 use Rattle.file_heap.proofs.Threads.{Threading, threading_beside, threading_set}
 use Rattle.file_heap.proofs.ListLaws.{ends_of, all_ends, threading, list_is, ends_are, same_ranges, link_says}

@@ -1,11 +1,9 @@
 -- One more gap among gaps in order of place.
-use Rattle.std.proofs.Common.{◌≡◌, inl, inr, ℕ, zero, suc, refl, sym, ap, subst, arith, List, [], ◌∷◌, length, ◌+◌, ◌<◌, ◌≤◌, true, false}
-use Rattle.std.specs.Prelude.{insert, remove, nat_lt}
-use Rattle.std.proofs.lemmas.Bool.{cases_eq}
+use Rattle.std.proofs.Common.{◌≡◌, ℕ, zero, suc, refl, ap, arith, List, [], ◌∷◌, ◌<◌, ◌≤◌, true, false}
+use Rattle.std.specs.Prelude.{insert, nat_lt}
 use Rattle.std.proofs.lemmas.Bool.Decides.{nat_tests}
 use Rattle.adf_format.specs.declared.types.Extent.{Extent}
-use Rattle.adf_format.specs.Tiles.{end_of}
-use Rattle.file_heap.specs.Gaps.{BeginBefore, CountsBefore, AllEndBy, gap_at, put_by_place}
+use Rattle.file_heap.specs.Gaps.{CountsBefore, put_by_place}
 
 pub is_put : (gap : Extent) (i : ℕ) (gaps : List Extent) → CountsBefore gap.place gaps i → insert gaps i gap ≡ put_by_place gap gaps
 is_put gap zero [] c = refl

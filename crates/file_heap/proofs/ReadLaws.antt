@@ -1,8 +1,8 @@
 -- The lists are read: each chunk that is passed gets its spot.
-use Rattle.std.proofs.Common.{◌≡◌, ◌≢◌, ◌⊎◌, inl, inr, ℕ, zero, suc, refl, sym, ◌∙◌, ap, subst, arith, List, [], ◌∷◌, ◌++◌, length, append_assoc, length-append, filter, ◌+◌, ◌<◌, ◌≤◌, ◌^◌, Bool, true, false, cond}
-use Rattle.std.proofs.lemmas.Bool.Decides.{nat_tests, eqb_tells, leb_tells}
+use Rattle.std.proofs.Common.{◌≡◌, ◌≢◌, ◌⊎◌, inl, inr, ℕ, zero, suc, refl, sym, ◌∙◌, ap, subst, arith, List, [], ◌∷◌, ◌++◌, length, append_assoc, length-append, filter, ◌+◌, ◌<◌, ◌≤◌, ◌^◌, true, false}
+use Rattle.std.proofs.lemmas.Bool.Decides.{eqb_tells, leb_tells}
 use Rattle.std.proofs.lemmas.List.{append-nil}
-use Rattle.std.specs.Prelude.{Option, Some, None, IfSome, slice_get, slice_set, ◌==◌}
+use Rattle.std.specs.Prelude.{Option, Some, None, IfSome, slice_get, ◌==◌}
 use Rattle.cg_io.specs.Answers.{IsRefusal, IsUntold}
 use Rattle.adf_model.specs.declared.error.AdfError.{AdfError}
 use Rattle.adf_format.specs.declared.types.Extent.{Extent}
@@ -10,12 +10,11 @@ use Rattle.adf_format.specs.Tiles.{is_free}
 use Rattle.adf_format.specs.LaysOut.{AreGapsInOrder, ThreadsFreeChunks, first_place, last_place, count_of}
 use Rattle.gap_tree.specs.declared.slot.Class.{Class}
 use Rattle.gap_tree.specs.declared.slot.Slot.{Slot}
-use Rattle.gap_tree.specs.declared.slot.Spot.{Spot}
 use Rattle.gap_tree.specs.Slots.{gaps_of}
-use Rattle.file_heap.specs.Gaps.{NoneBegins, gap_at}
+use Rattle.file_heap.specs.Gaps.{NoneBegins}
 use Rattle.file_heap.specs.Links.{AreGaps, Follows, IsBehind, PointsNowhere, list_of, lists_of, link_at, number_of}
-use Rattle.file_heap.specs.Slots.{AreRead, BeginsSome, HasPassed, HasPlace, HasReadBelow, HasSlot, HasWalked, IsMissing, MovesTo, StandsIn, StandsOn, ThreadsSlots, WasRead}
-use Rattle.file_heap.proofs.Ranges.{IsPicked, pick, flat, count-append}
+use Rattle.file_heap.specs.Slots.{AreRead, BeginsSome, HasPassed, HasPlace, HasReadBelow, HasWalked, IsMissing, MovesTo, StandsOn, ThreadsSlots, WasRead}
+use Rattle.file_heap.proofs.Ranges.{pick, flat, count-append}
 use Rattle.file_heap.proofs.ListLaws.{chunk_stands, last_added, link_says, list_long, same_ranges, some_same}
 use Rattle.file_heap.proofs.HeapFacts.{gaps_apart}
 use Rattle.file_heap.proofs.SlotLaws.{gap_got, got_set}

@@ -1,19 +1,19 @@
 -- Slots whose gaps are found by their places, and by their lengths.
-use Rattle.std.proofs.Common.{◌≡◌, ◌≢◌, ◌⊎◌, inl, inr, ℕ, zero, suc, add-one, refl, sym, ◌∙◌, ap, subst, arith, List, [], ◌∷◌, ◌++◌, length, map, ◌+◌, ◌-◌, ◌<◌, ◌≤◌, Bool, true, false, cond}
-use Rattle.std.specs.Prelude.{Option, Some, None, take, drop, ◌&&◌, ◌==◌, find, slice_get, slice_set, insert, remove, nat_lt, IsTrue, IsFalse}
+use Rattle.std.proofs.Common.{◌≡◌, ◌≢◌, ◌⊎◌, inl, inr, ℕ, zero, suc, add-one, refl, sym, ◌∙◌, ap, subst, arith, List, [], ◌∷◌, ◌++◌, length, ◌+◌, ◌-◌, ◌<◌, ◌≤◌, Bool, true, false, cond}
+use Rattle.std.specs.Prelude.{Option, Some, None, take, drop, ◌&&◌, ◌==◌, find, slice_get, slice_set, insert, remove, nat_lt}
 use Rattle.std.specs.List.{AllByRecursion}
 use Rattle.std.proofs.lemmas.Bool.Decides.{nat_tests, leb_tells}
 use Rattle.adf_format.specs.declared.types.Extent.{Extent}
 use Rattle.adf_format.specs.declared.types.ExtentKind.{ExtentKind}
 use Rattle.adf_format.specs.Placement.{extent}
 use Rattle.adf_format.specs.Tiles.{end_of, is_filler, is_free, MeetsNone}
-use Rattle.adf_format.specs.LaysOut.{AreGapsInOrder, StandsBefore}
+use Rattle.adf_format.specs.LaysOut.{AreGapsInOrder}
 use Rattle.adf_format.specs.HeapRule.{is_fit, before_gaps}
 use Rattle.gap_tree.specs.declared.slot.Slot.{Slot}
 use Rattle.gap_tree.specs.declared.slot.Spot.{Spot}
 use Rattle.gap_tree.specs.Slots.{IsByPlace, fit_index, one_on, count_before, gaps_of}
-use Rattle.file_heap.specs.Gaps.{IsFirstFit, FitsAt, CountsBefore, NoneEnds, NoneBegins, EndsAt, BeginsAt, IsBesideGap, gap_at, no_gap, put_by_place}
-use Rattle.file_heap.specs.Slots.{MovesTo, BeginsSome, IsMissing, HasSlot, HasNoMore, HasOneMore}
+use Rattle.file_heap.specs.Gaps.{IsFirstFit, FitsAt, CountsBefore, NoneEnds, NoneBegins, BeginsAt, IsBesideGap, gap_at, put_by_place}
+use Rattle.file_heap.specs.Slots.{MovesTo, BeginsSome, HasSlot, HasNoMore, HasOneMore}
 use Rattle.file_heap.proofs.CutLaws.{first_fit, stays_last, stays_apart, is_joined}
 use Rattle.file_heap.proofs.PutLaws.{is_put as gap_is_put}
 use Rattle.file_heap.proofs.JoinLaws.{behind}

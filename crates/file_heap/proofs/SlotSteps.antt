@@ -1,15 +1,13 @@
 -- A gap leaves the gaps and its list, and a gap is written and joins them.
-use Rattle.std.proofs.Common.{◌≡◌, ◌≢◌, ◌⊎◌, inl, inr, ℕ, zero, suc, refl, sym, ◌∙◌, ap, subst, arith, List, [], ◌∷◌, length, get_or, filter, ◌+◌, ◌<◌, ◌≤◌, ◌^◌, Bool, true, false, cond}
+use Rattle.std.proofs.Common.{◌≡◌, ◌≢◌, inl, inr, ℕ, refl, sym, ◌∙◌, ap, subst, arith, List, [], ◌∷◌, length, get_or, filter, ◌+◌, ◌<◌, ◌≤◌, Bool, true, false, cond}
 use Rattle.std.proofs.lemmas.Bool.Decides.{nat_tests, eqb_tells, leb_tells}
-use Rattle.std.specs.Prelude.{Option, Some, None, IfSome, Result, Ok, Err, OnOk, IfOk, IfErr, slice_get, slice_set, remove, nat_lt, ◌==◌, ◌&&◌}
+use Rattle.std.specs.Prelude.{Option, Some, None, IfSome, slice_get, slice_set, remove, nat_lt, ◌==◌, ◌&&◌}
 use Rattle.cg_io.specs.Blocks.{Both}
 use Rattle.cg_io.specs.Answers.{IsRefusal, IsUntold}
 use Rattle.adf_model.specs.declared.error.AdfError.{AdfError}
 use Rattle.adf_model.specs.declared.error.AdfError.TheVariants as error
 use Rattle.adf_format.specs.declared.fields.TheConstants.{FREE_TABLE_PLACE, FREE_TABLE_LENGTH}
 use Rattle.adf_format.specs.declared.types.Extent.{Extent}
-use Rattle.adf_format.specs.declared.types.ExtentKind.{ExtentKind}
-use Rattle.adf_format.specs.Placement.{extent}
 use Rattle.adf_format.specs.RecordFields.{list_first}
 use Rattle.adf_format.specs.Parts.{HasPointer}
 use Rattle.adf_format.specs.Tiles.{is_free, MeetsNone}
@@ -21,9 +19,8 @@ use Rattle.gap_tree.specs.declared.slot.Spot.{Spot}
 use Rattle.gap_tree.specs.Slots.{gaps_of}
 use Rattle.file_heap.specs.Gaps.{NoneBegins, gap_at, put_by_place}
 use Rattle.file_heap.specs.Heap.{ChangesOnly}
-use Rattle.file_heap.specs.Links.{AreGaps, IsBehind, ListsGap, ThreadsNone, ThreadsThese, WritesGap, list_of, lists_of, listed, number_of, class_of, link_at, range, free_table}
-use Rattle.file_heap.specs.Slots.{AreFirst, BecomeSlots, BeginsSome, HasOneMore, HasSlot, HasSpot, IsMissing, LeavesList, MovesTo, StandsIn, StandsOn, ThreadsSlots}
-use Rattle.file_heap.proofs.Ranges.{here}
+use Rattle.file_heap.specs.Links.{AreGaps, IsBehind, ListsGap, ThreadsNone, ThreadsThese, WritesGap, list_of, lists_of, listed, number_of, class_of, range, free_table}
+use Rattle.file_heap.specs.Slots.{AreFirst, BecomeSlots, BeginsSome, HasOneMore, HasSlot, HasSpot, IsMissing, LeavesList, MovesTo, StandsOn, ThreadsSlots}
 use Rattle.file_heap.proofs.ListLaws.{link_says, some_same}
 use Rattle.file_heap.proofs.HeapFacts.{free_put, free_unlisted}
 use Rattle.file_heap.proofs.SlotLaws.{gap_got, gaps_length, moved_gaps, gaps-removed, got_removed, got_set}

@@ -12,9 +12,9 @@ use Rattle.adf_format.specs.Fields.{field}
 use Rattle.adf_format.specs.Pointer.{To, pointer, pointer_text, PointsTo}
 use Rattle.adf_format.specs.Tiles.{cover, end_of, holds_byte, is_free, is_filler, MeetsNone}
 use Rattle.adf_format.specs.Placement.{extent}
-use Rattle.adf_format.specs.LaysOut.{ThreadsFreeChunks, HasSameRanges, count_of}
+use Rattle.adf_format.specs.LaysOut.{ThreadsFreeChunks}
 use Rattle.adf_format.specs.Changes.{Writes}
-use Rattle.adf_format.specs.HeapRule.{new_gap, cut}
+use Rattle.adf_format.specs.HeapRule.{new_gap}
 use Rattle.adf_format.proofs.HeapLaws.{in_range}
 use Rattle.adf_format.proofs.HexLaws.{pointer-pointer_text}
 use Rattle.adf_format.proofs.CountLaws.{none_holds}

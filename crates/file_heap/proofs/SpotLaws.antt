@@ -1,11 +1,11 @@
 -- The spots of free chunks in their lists, where one of them leaves its list.
-use Rattle.std.proofs.Common.{◌≡◌, ◌≢◌, ◌⊎◌, inl, inr, ℕ, zero, suc, refl, sym, ◌∙◌, ap, subst, arith, List, [], ◌∷◌, ◌++◌, length, append_assoc, get_or, filter, ◌+◌, ◌<◌, ◌≤◌, ◌^◌, Bool, true, false, cond}
+use Rattle.std.proofs.Common.{◌≡◌, ◌≢◌, inl, inr, ℕ, zero, suc, refl, sym, ◌∙◌, ap, subst, arith, List, [], ◌∷◌, ◌++◌, length, append_assoc, get_or, filter, ◌+◌, ◌<◌, ◌≤◌, ◌^◌, Bool, true, false, cond}
 use Rattle.std.proofs.lemmas.Bool.Decides.{nat_tests, eqb_tells, leb_tells}
 use Rattle.std.specs.Prelude.{Option, Some, None, IfSome, slice_get, slice_set, remove, ◌==◌, ◌&&◌}
 use Rattle.cg_io.specs.Blocks.{Both}
 use Rattle.cg_io.specs.Answers.{IsUntold}
 use Rattle.adf_format.specs.declared.types.Extent.{Extent}
-use Rattle.adf_format.specs.Tiles.{end_of, is_free}
+use Rattle.adf_format.specs.Tiles.{is_free}
 use Rattle.adf_format.specs.LaysOut.{AreGapsInOrder, ThreadsFreeChunks, first_place, last_place, count_of}
 use Rattle.gap_tree.specs.declared.slot.Class.{Class}
 use Rattle.gap_tree.specs.declared.slot.Class.TheVariants.{Small, Medium, Large}
@@ -16,7 +16,7 @@ use Rattle.file_heap.specs.Gaps.{NoneBegins, gap_at}
 use Rattle.file_heap.specs.Heap.{ChangesOnly}
 use Rattle.file_heap.specs.Links.{AreGaps, Points, Follows, HasHead, IsBehind, PointsNowhere, Relinks, ThreadsThese, list_of, lists_of, number_of, free_table, link_range}
 use Rattle.file_heap.specs.Slots.{BeginsSome, HasSlot, HasSpot, LeavesList, MovesTo, StandsOn, ThreadsSlots}
-use Rattle.file_heap.proofs.Ranges.{flat, count_in, count_without, here, test_holds}
+use Rattle.file_heap.proofs.Ranges.{count_in, count_without, here, test_holds}
 use Rattle.file_heap.proofs.ListLaws.{EndsWith, ends_with, chunk_stands, list_is, link_says, last_added, same_ranges, some_same}
 use Rattle.file_heap.proofs.ChangeLaws.{widened, spot_within}
 use Rattle.file_heap.proofs.HeapFacts.{gaps_apart, free_long}

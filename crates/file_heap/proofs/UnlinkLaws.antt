@@ -1,7 +1,6 @@
 -- A free chunk is taken out of its list.
 use Rattle.std.proofs.Common.{◌≡◌, ℕ, zero, suc, refl, sym, ◌∙◌, ap, subst, arith, List, [], ◌∷◌, ◌++◌, length, append_assoc, filter, ◌+◌, ◌<◌, ◌≤◌, ◌^◌, Bool, true, false, cond}
-use Rattle.std.specs.Prelude.{Option, Some, None, IfSome, slice_get, slice_set, remove}
-use Rattle.cg_io.specs.Blocks.{Both}
+use Rattle.std.specs.Prelude.{Option, Some, None, slice_get, slice_set, remove}
 use Rattle.adf_format.specs.declared.fields.TheConstants.{FREE_TABLE_PLACE, FREE_TABLE_LENGTH}
 use Rattle.adf_format.specs.RecordFields.{list_first}
 use Rattle.adf_format.specs.declared.types.Extent.{Extent}

@@ -1,6 +1,5 @@
 -- How many blocks a short range touches.
-use Rattle.std.proofs.Common.{ℕ, ◌+◌, ◌/◌, ◌%◌, ◌<◌, ◌≤◌, min, arith}
-use Rattle.std.proofs.lemmas.Bool.Decides.{nat_tests}
+use Rattle.std.proofs.Common.{ℕ, ◌+◌, ◌/◌, ◌%◌, ◌<◌, ◌≤◌, arith}
 use Rattle.cg_io.specs.Blocks.{blocks_of}
 
 few : (r n : ℕ) → r < 4096 → n ≤ 4096 → (r + n + 4095) / 4096 ≤ 2

@@ -1,5 +1,5 @@
 -- What changes beside the lists of free chunks, the end pointer and the fillers, and what that leaves.
-use Rattle.std.specs.Prelude.{◌≡◌, ℕ, ◌<◌, ◌≤◌, List, filter, Option, IfSome}
+use Rattle.std.specs.Prelude.{◌≡◌, ℕ, ◌<◌, List, filter, Option, IfSome}
 use Rattle.cg_io.specs.Blocks.{Both}
 use Rattle.adf_format.specs.declared.fields.TheConstants.{HEADER_END, FREE_TABLE_PLACE, FREE_TABLE_LENGTH}
 use Rattle.adf_format.specs.declared.types.Extent.{Extent}

@@ -22,7 +22,7 @@ use gap_tree::{Class, Spot, Tree};
 pub(crate) const LAST_HEAD: u64 = (1 << 44) - 32;
 
 // The last pointer of a list is written over, where nothing is behind its new last chunk.
-#[tactic(auto, using(crate::proofs::ChangeLaws::last_changed, crate::proofs::ChangeLaws::changes_none, crate::proofs::ChangeLaws::ends_same))]
+#[tactic(auto, using(crate::proofs::ChangeLaws::changes_none, crate::proofs::ChangeLaws::ends_same))]
 fn end_list<S: Space>(
     space: &mut S,
     list: Class,
@@ -183,7 +183,7 @@ fn first_in<S: Space>(space: &mut S, list: Class) -> Result<Option<u64>, AdfErro
 }
 
 // Writes a free chunk in front of the first of its class, which it answers.
-#[tactic(auto, using(crate::proofs::PushLaws::gap_changes, crate::proofs::PushLaws::link_then, crate::proofs::ChangeLaws::table_then))]
+#[tactic(auto, using(crate::proofs::PushLaws::gap_changes))]
 fn push<S: Space>(space: &mut S, place: u64, length: u64) -> Result<Option<u64>, AdfError>
     requires sound { S.is_sound space.old }
     requires long { 32 ≤ length }

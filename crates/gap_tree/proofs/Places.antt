@@ -1,6 +1,6 @@
 -- A place in the gaps of a fork: on its left, in its middle, or on its right.
-use Rattle.std.proofs.Common.{◌≡◌, ℕ, zero, suc, ◌+◌, ◌-◌, ◌<◌, ◌≤◌, List, [], ◌∷◌, ◌++◌, length, refl, sym, ap, ◌∙◌, arith, length-append, Bool, true, false, cond}
-use Rattle.std.specs.Prelude.{Option, Some, None, slice_get, slice_set, insert, remove, nat_lt}
+use Rattle.std.proofs.Common.{◌≡◌, ℕ, zero, suc, ◌+◌, ◌-◌, ◌<◌, ◌≤◌, List, [], ◌∷◌, ◌++◌, length, refl, ap, ◌∙◌, arith, length-append, Bool, true, false, cond}
+use Rattle.std.specs.Prelude.{Some, slice_get, slice_set, insert, remove, nat_lt}
 use Rattle.std.specs.List.{AllByRecursion}
 use Rattle.std.proofs.lemmas.Bool.Decides.{nat_tests}
 use Rattle.gap_tree.specs.declared.slot.Slot.{Slot}

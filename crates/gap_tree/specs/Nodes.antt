@@ -1,5 +1,5 @@
 -- What a node of the tree is seen as.
-use Rattle.std.specs.Prelude.{◌≡◌, ℕ, ◌≤◌, ◌^◌, List, [], ◌∷◌, ◌++◌, length, ⊤}
+use Rattle.std.specs.Prelude.{◌≡◌, ◌≤◌, ◌^◌, List, [], ◌∷◌, ◌++◌, length, ⊤}
 use Rattle.gap_tree.specs.declared.slot.Slot.{Slot}
 use Rattle.gap_tree.specs.declared.tree.Node.{Node}
 use Rattle.gap_tree.specs.declared.tree.Node.TheVariants.{Leaf, Fork}

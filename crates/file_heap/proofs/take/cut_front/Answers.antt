@@ -1,4 +1,3 @@
-use Rattle.std.proofs.Common.{◌+◌, ◌-◌}
 use Rattle.gap_tree.specs.Slots.{gaps_of}
 use Rattle.file_heap.proofs.Effects.{if_both, or_made}
 use Rattle.file_heap.proofs.CutSteps.{cut_becomes, whole_becomes}
