@@ -14,7 +14,7 @@ use Rattle.adf_format.specs.LaysOut.{IsThreaded, ThreadsFreeChunks, first_place,
 use Rattle.adf_format.proofs.HeapLaws.{in_range}
 use Rattle.adf_format.proofs.FieldLaws.{inner_field}
 use Rattle.file_heap.specs.Links.{Points, AreApart, list_of, lists_of, link_at}
-use Rattle.file_heap.proofs.Ranges.{flat, cover_in, cover_without, cover_kinds, count-append, holds_inner, length_in, length_kind, same_cover, same_length}
+use Rattle.file_heap.proofs.Ranges.{flat, cover_in, cover_without, cover_kinds, count-append, holds_inner, same_cover}
 use Rattle.file_heap.proofs.Threads.{Threading, free_within, table_within, threaded_at}
 
 -- ---- the three lists as one
@@ -62,12 +62,6 @@ module _ (bytes : List ℕ) (gaps : List Extent) (t : ThreadsFreeChunks bytes ga
 
   pub lists_cover : (b : ℕ) → cover (flat (lists_of t)) b ≤ cover gaps b
   lists_cover b = let s = same_cover (flat (lists_of t)) (filter is_free gaps) same_ranges b in let k = cover_kinds b gaps in omega (arith, s, k)
-
-  pub list_long : (k : ℕ) → k < 3 → length (list_of t k) ≤ length gaps
-  list_long k lt =
-      let a = length_in (lists_of t) k (list_of t k) (list_is k lt) in
-      let b = same_length (flat (lists_of t)) (filter is_free gaps) same_ranges in
-      let c = length_kind is_free gaps in omega (arith, a, b, c)
 
   pub list_threaded : (k : ℕ) → k < 3 → IsThreaded bytes (list_of t k)
   list_threaded k lt = threading.each k (list_of t k) (list_is k lt)

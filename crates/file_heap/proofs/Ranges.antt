@@ -201,9 +201,6 @@ cover_in b lists k fs at = let e = cover_set b lists k fs [] at in omega (arith,
 pub count_in : (place n : ℕ) (lists : List (List Extent)) (k : ℕ) (fs : List Extent) → slice_get lists k ≡ Some fs → count_of place n fs ≤ count_of place n (flat lists)
 count_in place n lists k fs at = let e = count_set place n lists k fs [] at in omega (arith, e)
 
-pub length_in : (lists : List (List Extent)) (k : ℕ) (fs : List Extent) → slice_get lists k ≡ Some fs → length fs ≤ length (flat lists)
-length_in lists k fs at = let e = weigh_set one_each lists k fs [] at in let f = length_weighs fs in let g = length_weighs (flat lists) in omega (arith, e, f, g)
-
 pub count-append : (place n : ℕ) (xs ys : List Extent) → count_of place n (xs ++ ys) ≡ count_of place n xs + count_of place n ys
 count-append place n xs ys = count_weighs place n (xs ++ ys) ∙ weigh-append (here place n) xs ys ∙ sym (ap (λ m. m + count_of place n ys) (count_weighs place n xs) ∙ ap (λ m. weigh (here place n) xs + m) (count_weighs place n ys))
 

@@ -1,5 +1,5 @@
 -- The lists are read: each chunk that is passed gets its spot.
-use Rattle.std.proofs.Common.{◌≡◌, ◌≢◌, ◌⊎◌, inl, inr, ℕ, zero, suc, refl, sym, ◌∙◌, ap, subst, arith, List, [], ◌∷◌, ◌++◌, length, append_assoc, length-append, filter, ◌+◌, ◌<◌, ◌≤◌, ◌^◌, true, false}
+use Rattle.std.proofs.Common.{◌≡◌, ◌≢◌, ◌⊎◌, inl, inr, ℕ, zero, suc, add-one, refl, sym, ◌∙◌, ap, subst, arith, List, [], ◌∷◌, ◌++◌, length, append_assoc, length-append, get_or, filter, ◌+◌, ◌<◌, ◌≤◌, ◌^◌, true, false}
 use Rattle.std.proofs.lemmas.Bool.Decides.{eqb_tells, leb_tells}
 use Rattle.std.proofs.lemmas.List.{append-nil}
 use Rattle.std.specs.Prelude.{Option, Some, None, IfSome, slice_get, ◌==◌}
@@ -13,9 +13,9 @@ use Rattle.gap_tree.specs.declared.slot.Slot.{Slot}
 use Rattle.gap_tree.specs.Slots.{gaps_of}
 use Rattle.file_heap.specs.Gaps.{NoneBegins}
 use Rattle.file_heap.specs.Links.{AreGaps, Follows, IsBehind, PointsNowhere, list_of, lists_of, link_at, number_of}
-use Rattle.file_heap.specs.Slots.{AreRead, BeginsSome, HasPassed, HasPlace, HasReadBelow, HasWalked, IsMissing, MovesTo, StandsOn, ThreadsSlots, WasRead}
-use Rattle.file_heap.proofs.Ranges.{pick, flat, count-append}
-use Rattle.file_heap.proofs.ListLaws.{chunk_stands, last_added, link_says, list_long, same_ranges, some_same}
+use Rattle.file_heap.specs.Slots.{AreRead, chunks_below, BeginsSome, HasPassed, HasPlace, HasReadBelow, HasWalked, IsMissing, MovesTo, StandsOn, ThreadsSlots, WasRead}
+use Rattle.file_heap.proofs.Ranges.{pick, flat, count-append, length_kind, same_length}
+use Rattle.file_heap.proofs.ListLaws.{chunk_stands, last_added, link_says, same_ranges, some_same}
 use Rattle.file_heap.proofs.HeapFacts.{gaps_apart}
 use Rattle.file_heap.proofs.SlotLaws.{gap_got, got_set}
 use Rattle.file_heap.proofs.SlotSteps.{missing_refused}
@@ -29,13 +29,25 @@ no_place place h = by_before h.1.before h.1.is
     by_before [] e = cc
     by_before (b ∷ bs) e = cc
 
-pub none_read : (image : Option (List ℕ)) (gaps : List Extent) (slots : List Slot) → IfSome image (HasReadBelow 0 gaps slots)
+pub none_read : (image : Option (List ℕ)) (gaps : List Extent) (slots : List Slot) → IfSome image (HasReadBelow 0 gaps slots 0)
 none_read None gaps slots = tt
-none_read (Some bytes) gaps slots = λ t s h was f. elim was [ inl q ↦ absurd (let lt = q.1 in omega (arith, lt)) | inr q ↦ absurd (no_place s.gap.place q) ]
+none_read (Some bytes) gaps slots = λ t. (λ s h was f. elim was [ inl q ↦ absurd (let lt = q.1 in omega (arith, lt)) | inr q ↦ absurd (no_place s.gap.place q) ], refl)
 
-pub walk_starts : (image : Option (List ℕ)) (k : ℕ) (gaps : List Extent) (slots : List Slot) → IfSome image (HasReadBelow k gaps slots) → IfSome image (HasWalked k gaps slots None 0)
-walk_starts None k gaps slots r = tt
-walk_starts (Some bytes) k gaps slots r = λ t. record { before = []; after = list_of t k; is = refl; follows = refl; long = refl; read = r t }
+pub walk_starts : (image : Option (List ℕ)) (k : ℕ) (gaps : List Extent) (slots : List Slot) (count : ℕ) → IfSome image (HasReadBelow k gaps slots count) → IfSome image (HasWalked k gaps slots None count)
+walk_starts None k gaps slots count r = tt
+walk_starts (Some bytes) k gaps slots count r = λ t. record { before = []; after = list_of t k; is = refl; follows = refl; long = (let e = (r t).1 in omega (arith, e)); read = (r t).0 }
+
+-- the lists up to one, and that one
+chunks_next : (lists : List (List Extent)) (k : ℕ) → chunks_below lists (suc k) ≡ chunks_below lists k + length (get_or lists k [])
+chunks_next [] zero = refl
+chunks_next [] (suc k) = refl
+chunks_next (fs ∷ lists) zero = omega arith
+chunks_next (fs ∷ lists) (suc k) = let e = chunks_next lists k in omega (arith, e)
+
+chunks_few : (lists : List (List Extent)) (k : ℕ) → chunks_below lists k ≤ length (flat lists)
+chunks_few lists zero = omega arith
+chunks_few [] (suc k) = omega arith
+chunks_few (fs ∷ lists) (suc k) = let le = chunks_few lists k in let e = length-append fs (flat lists) in omega (arith, le, e)
 
 module _ (list : Class) (gaps : List Extent) (front : Option ℕ) (count : ℕ) where
   -- the next chunk is passed, and has its spot
@@ -55,7 +67,7 @@ module _ (list : Class) (gaps : List Extent) (front : Option ℕ) (count : ℕ) 
           after = after;
           is = split ∙ sym (append_assoc p.before (f ∷ []) after);
           follows = ap (λ q. Some q) here ∙ sym (last_added p.before f);
-          long = length-append p.before (f ∷ []) ∙ (let n = p.long in omega (arith, n));
+          long = (let n = p.long in let e = length-append p.before (f ∷ []) in omega (arith, n, e));
           read = λ s has was free. elim (got_set slots m.0 has.0 (record { gap = m.1.gap; spot = Some (record { list = list; front = front }) }) s (subst (λ ss. slice_get ss has.0 ≡ Some s) m.4 has.1)) [
             | inl q ↦ subst (λ (x : Slot). StandsOn (lists_of t) x.gap.place x.spot) (sym q.1) (record { before = p.before; chunk = f; after = after; is = split; here = sym here ∙ sym m.3; follows = p.follows })
             | inr q ↦ p.read s (has.0, q.1) (apart f (sym here) s.gap.place (λ z. different slots has.0 m.0 s m.1 o q.1 m.2 q.0 (z ∙ sym m.3)) was) free
@@ -76,7 +88,7 @@ module _ (list : Class) (gaps : List Extent) (front : Option ℕ) (count : ℕ) 
       (subst (λ image. Follows image (link_at (number_of list) front) (Some next)) e (subst (λ a. Follows now a (Some next)) here (subst (Follows now at) is follows))) m
 
   -- the list ends
-  pub walk_ends : (image : Option (List ℕ)) (slots : List Slot) → IfSome image (HasWalked (number_of list) gaps slots front count) → Follows image (link_at (number_of list) front) None → IfSome image (HasReadBelow (number_of list + 1) gaps slots)
+  pub walk_ends : (image : Option (List ℕ)) (slots : List Slot) → IfSome image (HasWalked (number_of list) gaps slots front count) → Follows image (link_at (number_of list) front) None → IfSome image (HasReadBelow (number_of list + 1) gaps slots count)
   walk_ends None slots walked follows = tt
   walk_ends (Some bytes) slots walked follows = λ t.
       let p = walked t in all_read t p p.after refl (follows (first_place p.after) (link_says bytes gaps t (number_of list) p.before p.after front (number_few list) p.is p.follows))
@@ -90,8 +102,12 @@ module _ (list : Class) (gaps : List Extent) (front : Option ℕ) (count : ℕ) 
       was t p whole place (inl q) = by_number t p whole place q.0 q.1 q.2 (eqb_tells q.0 (number_of list))
       was t p whole place (inr q) = absurd (no_place place q)
 
-      all_read : (t : ThreadsFreeChunks bytes gaps) (p : HasPassed t (number_of list) slots front count) (after : List Extent) → after ≡ p.after → None ≡ first_place after → AreRead t (number_of list + 1) [] slots
-      all_read t p [] e h = λ s has w free. p.read s has (was t p (p.is ∙ ap (λ xs. p.before ++ xs) (sym e) ∙ append-nil p.before) s.gap.place w) free
+      all_read : (t : ThreadsFreeChunks bytes gaps) (p : HasPassed t (number_of list) slots front count) (after : List Extent) → after ≡ p.after → None ≡ first_place after → AreRead t (number_of list + 1) [] slots × (chunks_below (lists_of t) (number_of list + 1) ≡ count)
+      all_read t p [] e h =
+          let whole : list_of t (number_of list) ≡ p.before = p.is ∙ ap (λ xs. p.before ++ xs) (sym e) ∙ append-nil p.before in
+          let next : chunks_below (lists_of t) (number_of list + 1) ≡ chunks_below (lists_of t) (number_of list) + length (list_of t (number_of list)) = rw add-one (chunks_next (lists_of t) (number_of list)) in
+          let l : length (list_of t (number_of list)) ≡ length p.before = ap length whole in
+          (λ s has w free. p.read s has (was t p whole s.gap.place w) free, let n = p.long in omega (arith, next, l, n))
       all_read t p (f ∷ fs) e h = cc
 
   -- what is read is a pointer
@@ -137,7 +153,11 @@ module _ (list : Class) (gaps : List Extent) (front : Option ℕ) (count : ℕ) 
   pub walk_is_short : (image : Option (List ℕ)) (slots : List Slot) → IfSome image (λ bytes. ThreadsFreeChunks bytes gaps) → IfSome image (HasWalked (number_of list) gaps slots front count) → length gaps < count → IsUntold image
   walk_is_short None slots threads walked far = tt
   walk_is_short (Some bytes) slots t walked far =
-      let p = walked t in let n = p.long in let e = ap length p.is ∙ length-append p.before p.after in let le = list_long bytes gaps t (number_of list) (number_few list) in omega (arith, n, e, le, far)
+      let p = walked t in let n = p.long in let e = ap length p.is ∙ length-append p.before p.after in
+      let next = chunks_next (lists_of t) (number_of list) in
+      let le = chunks_few (lists_of t) (suc (number_of list)) in
+      let same = same_length (flat (lists_of t)) (filter is_free gaps) (same_ranges bytes gaps t) in
+      let few = length_kind is_free gaps in omega (arith, n, e, next, le, same, few, far)
 
 -- ---- all lists are read
 
@@ -159,12 +179,12 @@ module _ (bytes : List ℕ) (gaps : List Extent) (t : ThreadsFreeChunks bytes ga
       by_small (inr h) (inl k) = let le = k.1 in in_list place n 1 (omega arith) (omega (arith, le))
       by_small (inr h) (inr k) = let a = h.1 in let b = k.1 in in_list place n 2 (omega arith) (omega (arith, a, b, all, same, some))
 
-pub all_are_read : (image : Option (List ℕ)) (slots : List Slot) → IfSome image (λ bytes. ThreadsFreeChunks bytes (gaps_of slots)) → IfSome image (HasReadBelow 3 (gaps_of slots) slots) → IfSome image (ThreadsSlots (gaps_of slots) slots)
-all_are_read None slots threads read = tt
-all_are_read (Some bytes) slots t read = record {
+pub all_are_read : (image : Option (List ℕ)) (slots : List Slot) (count : ℕ) → IfSome image (λ bytes. ThreadsFreeChunks bytes (gaps_of slots)) → IfSome image (HasReadBelow 3 (gaps_of slots) slots count) → IfSome image (ThreadsSlots (gaps_of slots) slots)
+all_are_read None slots count threads read = tt
+all_are_read (Some bytes) slots count t read = record {
   threads = t;
   spots = λ s h f.
-      read t s h
+      (read t).0 s h
       (one_has bytes (gaps_of slots) t s.gap.place s.gap.length
       (subst (λ (x : Extent). 0 < count_of x.place x.length (filter is_free (gaps_of slots))) (sym (gap_got slots h.0 s h.1)) (counted (gaps_of slots) h.0 (within slots h.0 s h.1) (ap is_free (sym (gap_got slots h.0 s h.1)) ∙ f)))) f;
 }
@@ -175,8 +195,8 @@ all_are_read (Some bytes) slots t read = record {
     within (x ∷ xs) (suc k) s e = let w = within xs k s e in omega (arith, w)
 
 -- the bytes thread the lists as they were read
-pub new_threads : (entry before last : Option (List ℕ)) (gaps : List Extent) (medium kept : List Slot) → before ≡ entry → last ≡ before → gaps_of medium ≡ gaps → gaps_of kept ≡ gaps_of medium → IfSome entry (λ bytes. ThreadsFreeChunks bytes gaps)
-    → IfSome before (HasReadBelow 3 (gaps_of medium) kept) → IfSome last (ThreadsSlots (gaps_of kept) kept)
-new_threads entry before last gaps medium kept e f is same threads read =
-    all_are_read last kept (subst (λ image. IfSome image (λ bytes. ThreadsFreeChunks bytes (gaps_of kept))) (sym (f ∙ e)) (subst (λ gs. IfSome entry (λ bytes. ThreadsFreeChunks bytes gs)) (sym (same ∙ is)) threads))
-    (subst (λ image. IfSome image (HasReadBelow 3 (gaps_of kept) kept)) (sym f) (subst (λ gs. IfSome before (HasReadBelow 3 gs kept)) (sym same) read))
+pub new_threads : (entry before last : Option (List ℕ)) (gaps : List Extent) (medium kept : List Slot) (count : ℕ) → before ≡ entry → last ≡ before → gaps_of medium ≡ gaps → gaps_of kept ≡ gaps_of medium → IfSome entry (λ bytes. ThreadsFreeChunks bytes gaps)
+    → IfSome before (HasReadBelow 3 (gaps_of medium) kept count) → IfSome last (ThreadsSlots (gaps_of kept) kept)
+new_threads entry before last gaps medium kept count e f is same threads read =
+    all_are_read last kept count (subst (λ image. IfSome image (λ bytes. ThreadsFreeChunks bytes (gaps_of kept))) (sym (f ∙ e)) (subst (λ gs. IfSome entry (λ bytes. ThreadsFreeChunks bytes gs)) (sym (same ∙ is)) threads))
+    (subst (λ image. IfSome image (HasReadBelow 3 (gaps_of kept) kept count)) (sym f) (subst (λ gs. IfSome before (HasReadBelow 3 gs kept count)) (sym same) read))

@@ -1,5 +1,5 @@
 -- Gaps in memory with the spots of their free chunks, and the bytes that thread these.
-use Rattle.std.specs.Prelude.{◌≡◌, ◌⊎◌, ℕ, ◌<◌, true, List, [], ◌++◌, length, get_or, filter, slice_get, slice_set, remove, Option, Some, None, IfSome, ⊤}
+use Rattle.std.specs.Prelude.{◌≡◌, ◌⊎◌, ℕ, zero, suc, ◌+◌, ◌<◌, true, List, [], ◌∷◌, ◌++◌, length, get_or, filter, slice_get, slice_set, remove, Option, Some, None, IfSome, ⊤}
 use Rattle.std.specs.declared.alloc.Global.{Global}
 use Rattle.std.specs.declared.rc.Rc.{Rc}
 use Rattle.cg_io.specs.Blocks.{Both}
@@ -100,18 +100,24 @@ WasRead t k passed place = ((j : ℕ) × (j < k) × HasPlace place (list_of t j)
 abbrev pub AreRead : {bytes : List ℕ} {gaps : List Extent} → ThreadsFreeChunks bytes gaps → ℕ → List Extent → List Slot → Type 0
 AreRead t k passed slots = (s : Slot) → HasSlot slots s → WasRead t k passed s.gap.place → StandsIn t s
 
--- some chunks of the list k are passed, and stand at their spots with those of the lists before
+-- how many chunks the first k lists have
+abbrev pub chunks_below : List (List Extent) → ℕ → ℕ
+chunks_below lists zero = 0
+chunks_below [] (suc k) = 0
+chunks_below (fs ∷ lists) (suc k) = length fs + chunks_below lists k
+
+-- some chunks of the list k are passed, and stand at their spots with those of the lists before; so many were read
 pub record HasPassed {bytes : List ℕ} {gaps : List Extent} (t : ThreadsFreeChunks bytes gaps) (k : ℕ) (slots : List Slot) (front : Option ℕ) (count : ℕ) : Type 0 where
   pub before : List Extent
   pub after : List Extent
   pub is : list_of t k ≡ before ++ after
   pub follows : front ≡ last_place before
-  pub long : length before ≡ count
+  pub long : chunks_below (lists_of t) k + length before ≡ count
   pub read : AreRead t k before slots
 
 abbrev pub HasWalked : ℕ → List Extent → List Slot → Option ℕ → ℕ → List ℕ → Type 0
 HasWalked k gaps slots front count bytes = (t : ThreadsFreeChunks bytes gaps) → HasPassed t k slots front count
 
--- the chunks of the first k lists stand at their spots
-abbrev pub HasReadBelow : ℕ → List Extent → List Slot → List ℕ → Type 0
-HasReadBelow k gaps slots bytes = (t : ThreadsFreeChunks bytes gaps) → AreRead t k [] slots
+-- the chunks of the first k lists stand at their spots, and are so many
+abbrev pub HasReadBelow : ℕ → List Extent → List Slot → ℕ → List ℕ → Type 0
+HasReadBelow k gaps slots count bytes = (t : ThreadsFreeChunks bytes gaps) → AreRead t k [] slots × (chunks_below (lists_of t) k ≡ count)

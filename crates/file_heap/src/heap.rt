@@ -68,14 +68,14 @@ impl Heap {
         ensures accepted { IfOk result (λ heap. heap.kept ≡ heap.work) }
         ensures limit { IfOk result (λ heap. heap.limit ≡ limit) }
         ensures threads { IfOk result (λ heap. IfSome (S.image space.new) (IsThreaded heap.work)) }
-        ensures reads { AnswersRead S.is_sound S.image S.state S.waiting (ReadsFew (6 * (length gaps.now + 1))) (IsRefusal (IsUntold (S.image space.old))) space.old space.new result }
+        ensures reads { AnswersRead S.is_sound S.image S.state S.waiting (ReadsFew (2 * (length gaps.now + 3))) (IsRefusal (IsUntold (S.image space.old))) space.old space.new result }
     {
         let unread = unread(alloc, gaps.items())?;
         let small = read_list(space, alloc, &unread, Class::Small)?;
         let medium = read_list(space, alloc, &small, Class::Medium)?;
         let kept = read_list(space, alloc, &medium, Class::Large)?;
         Ok(Heap {
-            kept,
+            kept: kept.slots,
             kept_end: end,
             work: None,
             end,
