@@ -31,14 +31,18 @@ pub(crate) fn absorb<S: Space>(
     requires sound { S.is_sound space.old }
     requires inside { i < length slots.now.value }
     requires gaps { AreGaps (gaps_of slots.now.value) }
-    requires threads { IfSome (S.image space.old) (ThreadsSlots (gaps_of slots.now.value) slots.now.value) }
+    requires threads { IfSome (S.image space.old)
+        (ThreadsSlots (gaps_of slots.now.value) slots.now.value) }
     ensures sound { S.is_sound space.new }
     ensures gaps { IfOk result (λ rest. gaps_of rest.value ≡ remove (gaps_of slots.now.value) i) }
-    ensures threads { IfOk result (λ rest. IfSome (S.image space.new) (ThreadsSlots (gaps_of rest.value) rest.value)) }
-    ensures bytes { Both (ChangesOnly (free_table ∷ filter is_free (gaps_of slots.now.value))) (S.image space.old) (S.image space.new) }
+    ensures threads { IfOk result (λ rest. IfSome (S.image space.new)
+        (ThreadsSlots (gaps_of rest.value) rest.value)) }
+    ensures bytes { Both (ChangesOnly (free_table ∷ filter is_free (gaps_of slots.now.value)))
+        (S.image space.old) (S.image space.new) }
     ensures effect { ReadsFew 6 (S.state space.old) (S.state space.new) }
     ensures waiting { S.waiting space.new ≤ S.waiting space.old + 3 }
-    ensures cause { IfErr result (IsRefusal (IsUntold (S.image space.old)) (S.state space.old).faults (S.state space.new).faults) }
+    ensures cause { IfErr result (IsRefusal (IsUntold (S.image space.old))
+        (S.state space.old).faults (S.state space.new).faults) }
 {
     let slot = slots.get(i);
     if !is_free(slot.gap) {
@@ -67,13 +71,18 @@ pub(crate) fn give_alone<S: Space>(
     requires apart { MeetsNone place n (gaps_of slots.now.value) }
     requires low { 266 ≤ place }
     requires high { place + n ≤ 2 ^ 44 }
-    requires threads { IfSome (S.image space.old) (ThreadsSlots (gaps_of slots.now.value) slots.now.value) }
+    requires threads { IfSome (S.image space.old)
+        (ThreadsSlots (gaps_of slots.now.value) slots.now.value) }
     ensures sound { S.is_sound space.new }
-    ensures given { IfOk result (λ more. BecomeSlots (put_by_place (new_gap place n) (gaps_of slots.now.value)) slots.now.value more.value (S.image space.old) (S.image space.new)) }
-    ensures bytes { Both (ChangesOnly (free_table ∷ range place n ∷ [])) (S.image space.old) (S.image space.new) }
+    ensures given { IfOk result (λ more. BecomeSlots
+        (put_by_place (new_gap place n) (gaps_of slots.now.value)) slots.now.value more.value
+        (S.image space.old) (S.image space.new)) }
+    ensures bytes { Both (ChangesOnly (free_table ∷ range place n ∷ []))
+        (S.image space.old) (S.image space.new) }
     ensures effect { ReadsFew 10 (S.state space.old) (S.state space.new) }
     ensures waiting { S.waiting space.new ≤ S.waiting space.old + 6 }
-    ensures cause { IfErr result (IsRefusal (IsUntold (S.image space.old)) (S.state space.old).faults (S.state space.new).faults) }
+    ensures cause { IfErr result (IsRefusal (IsUntold (S.image space.old))
+        (S.state space.old).faults (S.state space.new).faults) }
 {
     let first = write_gap(space, place, n)?;
     let list = class_of(n);
@@ -104,13 +113,18 @@ fn give_right<S: Space>(
     requires apart { MeetsNone place n (gaps_of slots.now.value) }
     requires low { 266 ≤ place }
     requires high { place + n ≤ 2 ^ 44 }
-    requires threads { IfSome (S.image space.old) (ThreadsSlots (gaps_of slots.now.value) slots.now.value) }
+    requires threads { IfSome (S.image space.old)
+        (ThreadsSlots (gaps_of slots.now.value) slots.now.value) }
     ensures sound { S.is_sound space.new }
-    ensures given { IfOk result (λ more. BecomeSlots (give_right place n (gaps_of slots.now.value)) slots.now.value more.value (S.image space.old) (S.image space.new)) }
-    ensures bytes { Both (ChangesOnly (free_table ∷ range place n ∷ gaps_of slots.now.value)) (S.image space.old) (S.image space.new) }
+    ensures given { IfOk result (λ more. BecomeSlots
+        (give_right place n (gaps_of slots.now.value)) slots.now.value more.value
+        (S.image space.old) (S.image space.new)) }
+    ensures bytes { Both (ChangesOnly (free_table ∷ range place n ∷ gaps_of slots.now.value))
+        (S.image space.old) (S.image space.new) }
     ensures effect { ReadsFew 16 (S.state space.old) (S.state space.new) }
     ensures waiting { S.waiting space.new ≤ S.waiting space.old + 9 }
-    ensures cause { IfErr result (IsRefusal (IsUntold (S.image space.old)) (S.state space.old).faults (S.state space.new).faults) }
+    ensures cause { IfErr result (IsRefusal (IsUntold (S.image space.old))
+        (S.state space.old).faults (S.state space.new).faults) }
 {
     let Some(i) = find_begin(slots, place + n) else {
         return give_alone(space, alloc, slots, place, n);
@@ -135,13 +149,18 @@ pub(crate) fn give_range<S: Space>(
     requires apart { MeetsNone place n (gaps_of slots.now.value) }
     requires low { 266 ≤ place }
     requires high { place + n ≤ 2 ^ 44 }
-    requires threads { IfSome (S.image space.old) (ThreadsSlots (gaps_of slots.now.value) slots.now.value) }
+    requires threads { IfSome (S.image space.old)
+        (ThreadsSlots (gaps_of slots.now.value) slots.now.value) }
     ensures sound { S.is_sound space.new }
-    ensures given { IfOk result (λ more. BecomeSlots (give_joined place n (gaps_of slots.now.value)) slots.now.value more.value (S.image space.old) (S.image space.new)) }
-    ensures bytes { Both (ChangesOnly (free_table ∷ range place n ∷ gaps_of slots.now.value)) (S.image space.old) (S.image space.new) }
+    ensures given { IfOk result (λ more. BecomeSlots
+        (give_joined place n (gaps_of slots.now.value)) slots.now.value more.value
+        (S.image space.old) (S.image space.new)) }
+    ensures bytes { Both (ChangesOnly (free_table ∷ range place n ∷ gaps_of slots.now.value))
+        (S.image space.old) (S.image space.new) }
     ensures effect { ReadsFew 22 (S.state space.old) (S.state space.new) }
     ensures waiting { S.waiting space.new ≤ S.waiting space.old + 12 }
-    ensures cause { IfErr result (IsRefusal (IsUntold (S.image space.old)) (S.state space.old).faults (S.state space.new).faults) }
+    ensures cause { IfErr result (IsRefusal (IsUntold (S.image space.old))
+        (S.state space.old).faults (S.state space.new).faults) }
 {
     let Some(i) = find_end(slots, place) else {
         return give_right(space, alloc, slots, place, n);

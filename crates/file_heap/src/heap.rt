@@ -45,9 +45,14 @@ impl Model for Heap {
 
     ghost Value = { HeapState };
 
-    ghost view = { λ h. record { work = space_of (slots_in h.work h.kept.value) h.end; kept = space_of h.kept.value h.kept_end; limit = h.limit } };
+    ghost view = { λ h. record {
+      work = space_of (slots_in h.work h.kept.value) h.end;
+      kept = space_of h.kept.value h.kept_end;
+      limit = h.limit;
+    } };
 
-    ghost invariant = { λ h. AreHeaps (space_of (slots_in h.work h.kept.value) h.end).heap (space_of h.kept.value h.kept_end).heap h.limit };
+    ghost invariant = { λ h. AreHeaps (space_of (slots_in h.work h.kept.value) h.end).heap
+        (space_of h.kept.value h.kept_end).heap h.limit };
 }
 
 impl Heap {
@@ -68,7 +73,9 @@ impl Heap {
         ensures accepted { IfOk result (λ heap. heap.kept ≡ heap.work) }
         ensures limit { IfOk result (λ heap. heap.limit ≡ limit) }
         ensures threads { IfOk result (λ heap. IfSome (S.image space.new) (IsThreaded heap.work)) }
-        ensures reads { AnswersRead S.is_sound S.image S.state S.waiting (ReadsFew (2 * (length gaps.now + 3))) (IsRefusal (IsUntold (S.image space.old))) space.old space.new result }
+        ensures reads { AnswersRead S.is_sound S.image S.state S.waiting
+            (ReadsFew (2 * (length gaps.now + 3)))
+            (IsRefusal (IsUntold (S.image space.old))) space.old space.new result }
     {
         let unread = unread(alloc, gaps.items())?;
         let small = read_list(space, alloc, &unread, Class::Small)?;
@@ -93,7 +100,9 @@ impl Heap {
         ensures within { IfOk result (IsTakenWithin n self.new.work.heap) }
         ensures tiles { IfOk result (TakesOfTiles n self.old.work.heap self.new.work.heap) }
         ensures covers { IfOk result (TakesCover n self.old.work.heap self.new.work.heap) }
-        ensures changes { ChangesHeap S.is_sound S.image S.state S.waiting [] 9 (IsTakeRefusal (IsUntold (S.image space.old))) self.old self.new space.old space.new result }
+        ensures changes { ChangesHeap S.is_sound S.image S.state S.waiting [] 9
+            (IsTakeRefusal (IsUntold (S.image space.old)))
+            self.old self.new space.old space.new result }
     {
         match find_fit(current(&self.work, &self.kept), n) {
             None => grow(space, &mut self.end, self.limit, n),
@@ -112,7 +121,9 @@ impl Heap {
         ensures gives { OnOk result (self.new.work.heap ≡ heap_give place n self.old.work.heap) }
         ensures tiles { OnOk result (GivesToTiles place n self.old.work.heap self.new.work.heap) }
         ensures covers { OnOk result (GivesCover place n self.old.work.heap self.new.work.heap) }
-        ensures changes { ChangesHeap S.is_sound S.image S.state S.waiting (range place n ∷ []) 12 (IsRefusal (IsUntold (S.image space.old))) self.old self.new space.old space.new result }
+        ensures changes { ChangesHeap S.is_sound S.image S.state S.waiting (range place n ∷ []) 12
+            (IsRefusal (IsUntold (S.image space.old)))
+            self.old self.new space.old space.new result }
     {
         give_back(space, self.alloc, &mut self.work, &self.kept, place, n)
     }
@@ -194,15 +205,24 @@ fn take_front<S: Space>(
     requires gaps { AreGaps (gaps_of (slots_in work.old kept.now.value)) }
     requires some { 1 ≤ n }
     requires fit { IsFirstFit n (gaps_of (slots_in work.old kept.now.value)) i }
-    requires threads { IfSome (S.image space.old) (ThreadsSlots (gaps_of (slots_in work.old kept.now.value)) (slots_in work.old kept.now.value)) }
+    requires threads { IfSome (S.image space.old)
+        (ThreadsSlots (gaps_of (slots_in work.old kept.now.value))
+        (slots_in work.old kept.now.value)) }
     ensures sound { S.is_sound space.new }
-    ensures place { IfOk result (λ place. place ≡ (gap_at (gaps_of (slots_in work.old kept.now.value)) i).place) }
-    ensures taken { OnOk result (BecomeSlots (cut n (gaps_of (slots_in work.old kept.now.value))) (slots_in work.old kept.now.value) (slots_in work.new kept.now.value) (S.image space.old) (S.image space.new)) }
-    ensures stays { OnErr result (slots_in work.new kept.now.value ≡ slots_in work.old kept.now.value) }
-    ensures bytes { Both (ChangesOnly (free_table ∷ filter is_free (gaps_of (slots_in work.old kept.now.value)))) (S.image space.old) (S.image space.new) }
+    ensures place { IfOk result (λ place. place
+        ≡ (gap_at (gaps_of (slots_in work.old kept.now.value)) i).place) }
+    ensures taken { OnOk result (BecomeSlots (cut n (gaps_of (slots_in work.old kept.now.value)))
+        (slots_in work.old kept.now.value) (slots_in work.new kept.now.value)
+        (S.image space.old) (S.image space.new)) }
+    ensures stays { OnErr result (slots_in work.new kept.now.value
+        ≡ slots_in work.old kept.now.value) }
+    ensures bytes { Both (ChangesOnly (free_table
+        ∷ filter is_free (gaps_of (slots_in work.old kept.now.value))))
+        (S.image space.old) (S.image space.new) }
     ensures effect { ReadsFew 16 (S.state space.old) (S.state space.new) }
     ensures waiting { S.waiting space.new ≤ S.waiting space.old + 9 }
-    ensures cause { IfErr result (IsRefusal (IsUntold (S.image space.old)) (S.state space.old).faults (S.state space.new).faults) }
+    ensures cause { IfErr result (IsRefusal (IsUntold (S.image space.old))
+        (S.state space.old).faults (S.state space.new).faults) }
 {
     let slots = current(work, kept);
     let place = gap_of(slots, i).place;
@@ -226,14 +246,21 @@ fn give_back<S: Space>(
     requires apart { MeetsNone place n (gaps_of (slots_in work.old kept.now.value)) }
     requires low { 266 ≤ place }
     requires high { place + n ≤ 2 ^ 44 }
-    requires threads { IfSome (S.image space.old) (ThreadsSlots (gaps_of (slots_in work.old kept.now.value)) (slots_in work.old kept.now.value)) }
+    requires threads { IfSome (S.image space.old)
+        (ThreadsSlots (gaps_of (slots_in work.old kept.now.value))
+        (slots_in work.old kept.now.value)) }
     ensures sound { S.is_sound space.new }
-    ensures given { OnOk result (BecomeSlots (give_joined place n (gaps_of (slots_in work.old kept.now.value))) (slots_in work.old kept.now.value) (slots_in work.new kept.now.value) (S.image space.old) (S.image space.new)) }
-    ensures stays { OnErr result (slots_in work.new kept.now.value ≡ slots_in work.old kept.now.value) }
-    ensures bytes { Both (ChangesOnly (free_table ∷ range place n ∷ gaps_of (slots_in work.old kept.now.value))) (S.image space.old) (S.image space.new) }
+    ensures given { OnOk result (BecomeSlots (give_joined place n
+        (gaps_of (slots_in work.old kept.now.value))) (slots_in work.old kept.now.value)
+        (slots_in work.new kept.now.value) (S.image space.old) (S.image space.new)) }
+    ensures stays { OnErr result (slots_in work.new kept.now.value
+        ≡ slots_in work.old kept.now.value) }
+    ensures bytes { Both (ChangesOnly (free_table ∷ range place n
+        ∷ gaps_of (slots_in work.old kept.now.value))) (S.image space.old) (S.image space.new) }
     ensures effect { ReadsFew 22 (S.state space.old) (S.state space.new) }
     ensures waiting { S.waiting space.new ≤ S.waiting space.old + 12 }
-    ensures cause { IfErr result (IsRefusal (IsUntold (S.image space.old)) (S.state space.old).faults (S.state space.new).faults) }
+    ensures cause { IfErr result (IsRefusal (IsUntold (S.image space.old))
+        (S.state space.old).faults (S.state space.new).faults) }
 {
     let more = give_range(space, alloc, current(work, kept), place, n)?;
     *work = Some(more);

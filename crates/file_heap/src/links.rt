@@ -72,12 +72,14 @@ pub(crate) fn write_link<S: Space>(
     requires within { at + 12 ≤ 2 ^ 44 }
     requires reach { IsInReach next }
     ensures sound { S.is_sound space.new }
-    ensures written { OnOk result (Both (Writes at (pointer_text (pointer_to next))) (S.image space.old) (S.image space.new)) }
+    ensures written { OnOk result (Both (Writes at (pointer_text (pointer_to next)))
+        (S.image space.old) (S.image space.new)) }
     ensures bytes { Both (ChangesOnly (range at 12 ∷ [])) (S.image space.old) (S.image space.new) }
     ensures effect { ReadsFew 2 (S.state space.old) (S.state space.new) }
     ensures waiting { S.waiting space.new ≤ S.waiting space.old + 2 }
     ensures near { at + 12 ≤ 4096 → S.waiting space.new ≤ S.waiting space.old + 1 }
-    ensures cause { IfErr result (IsRefusal ⊥ (S.state space.old).faults (S.state space.new).faults) }
+    ensures cause { IfErr result (IsRefusal ⊥ (S.state space.old).faults
+        (S.state space.new).faults) }
 {
     write_pointer(space, at, pointer_of(next))
 }
@@ -103,7 +105,8 @@ pub(crate) fn read_link<S: Space>(space: &mut S, at: u64) -> Result<Option<u64>,
     ensures reach { IfOk result IsInReach }
     ensures effect { ReadsFew 2 (S.state space.old) (S.state space.new) }
     ensures waiting { S.waiting space.new ≡ S.waiting space.old }
-    ensures cause { IfErr result (IsRefusal (PointsNowhere (S.image space.old) at) (S.state space.old).faults (S.state space.new).faults) }
+    ensures cause { IfErr result (IsRefusal (PointsNowhere (S.image space.old) at)
+        (S.state space.old).faults (S.state space.new).faults) }
 {
     match read_pointer(space, at) {
         Ok(Some(pointer)) => Ok(place_of(pointer)),

@@ -32,11 +32,13 @@ fn end_list<S: Space>(
     requires sound { S.is_sound space.old }
     requires reach { IsInReach last }
     ensures sound { S.is_sound space.new }
-    ensures ended { OnOk result (Both (EndsList (number_of list) behind last) (S.image space.old) (S.image space.new)) }
+    ensures ended { OnOk result (Both (EndsList (number_of list) behind last)
+        (S.image space.old) (S.image space.new)) }
     ensures bytes { Both (ChangesOnly (free_table ∷ [])) (S.image space.old) (S.image space.new) }
     ensures effect { ReadsFew 2 (S.state space.old) (S.state space.new) }
     ensures waiting { S.waiting space.new ≤ S.waiting space.old + 1 }
-    ensures cause { IfErr result (IsRefusal ⊥ (S.state space.old).faults (S.state space.new).faults) }
+    ensures cause { IfErr result (IsRefusal ⊥ (S.state space.old).faults
+        (S.state space.new).faults) }
 {
     match behind {
         None => write_link(space, first_at(list) + 12, last),
@@ -51,11 +53,14 @@ fn relink<S: Space>(space: &mut S, spot: Spot, next: Option<u64>) -> Result<(), 
     requires head { HasHead spot.front }
     requires reach { IsInReach next }
     ensures sound { S.is_sound space.new }
-    ensures relinked { OnOk result (Both (Relinks (number_of spot.list) spot.front next) (S.image space.old) (S.image space.new)) }
-    ensures bytes { Both (ChangesOnly (free_table ∷ link_range spot.front)) (S.image space.old) (S.image space.new) }
+    ensures relinked { OnOk result (Both (Relinks (number_of spot.list) spot.front next)
+        (S.image space.old) (S.image space.new)) }
+    ensures bytes { Both (ChangesOnly (free_table ∷ link_range spot.front))
+        (S.image space.old) (S.image space.new) }
     ensures effect { ReadsFew 4 (S.state space.old) (S.state space.new) }
     ensures waiting { S.waiting space.new ≤ S.waiting space.old + 3 }
-    ensures cause { IfErr result (IsRefusal ⊥ (S.state space.old).faults (S.state space.new).faults) }
+    ensures cause { IfErr result (IsRefusal ⊥ (S.state space.old).faults
+        (S.state space.new).faults) }
 {
     write_link(space, link_at(spot.list, spot.front), next)?;
     end_list(space, spot.list, next, spot.front)
@@ -87,12 +92,15 @@ fn next_behind<S: Space>(
     requires threads { IfSome (S.image space.old) (ThreadsSlots (gaps_of slots.now) slots.now) }
     ensures sound { S.is_sound space.new }
     ensures image { S.image space.new ≡ S.image space.old }
-    ensures told { IfOk result (Follows (S.image space.old) ((gap_at (gaps_of slots.now) i).place + 16)) }
-    ensures begins { IfOk result (λ next. IfSome (S.image space.old) (λ bytes. BeginsSome (gaps_of slots.now) next)) }
+    ensures told { IfOk result (Follows (S.image space.old)
+        ((gap_at (gaps_of slots.now) i).place + 16)) }
+    ensures begins { IfOk result (λ next. IfSome (S.image space.old)
+        (λ bytes. BeginsSome (gaps_of slots.now) next)) }
     ensures reach { IfOk result IsInReach }
     ensures effect { ReadsFew 2 (S.state space.old) (S.state space.new) }
     ensures waiting { S.waiting space.new ≡ S.waiting space.old }
-    ensures cause { IfErr result (IsRefusal (IsUntold (S.image space.old)) (S.state space.old).faults (S.state space.new).faults) }
+    ensures cause { IfErr result (IsRefusal (IsUntold (S.image space.old))
+        (S.state space.old).faults (S.state space.new).faults) }
 {
     read_link(space, gap_of(slots, i).place + 16)
 }
@@ -112,12 +120,16 @@ pub(crate) fn unlink<S: Space>(
     requires spot { HasSpot slots.now i spot }
     requires threads { IfSome (S.image space.old) (ThreadsSlots (gaps_of slots.now) slots.now) }
     ensures sound { S.is_sound space.new }
-    ensures leaves { IfOk result (λ next. IfSome (S.image space.new) (LeavesList slots.now i spot next)) }
-    ensures begins { IfOk result (λ next. IfSome (S.image space.old) (λ bytes. BeginsSome (gaps_of slots.now) next)) }
-    ensures bytes { Both (ChangesOnly (free_table ∷ filter is_free (gaps_of slots.now))) (S.image space.old) (S.image space.new) }
+    ensures leaves { IfOk result (λ next. IfSome (S.image space.new)
+        (LeavesList slots.now i spot next)) }
+    ensures begins { IfOk result (λ next. IfSome (S.image space.old)
+        (λ bytes. BeginsSome (gaps_of slots.now) next)) }
+    ensures bytes { Both (ChangesOnly (free_table ∷ filter is_free (gaps_of slots.now)))
+        (S.image space.old) (S.image space.new) }
     ensures effect { ReadsFew 6 (S.state space.old) (S.state space.new) }
     ensures waiting { S.waiting space.new ≤ S.waiting space.old + 3 }
-    ensures cause { IfErr result (IsRefusal (IsUntold (S.image space.old)) (S.state space.old).faults (S.state space.new).faults) }
+    ensures cause { IfErr result (IsRefusal (IsUntold (S.image space.old))
+        (S.state space.old).faults (S.state space.new).faults) }
 {
     if !has_head(spot.front) {
         return Err(in_no_list(gap_of(slots, i).place));
@@ -153,11 +165,14 @@ fn write_chunk<S: Space>(
     requires near { place + length ≤ 2 ^ 44 }
     requires reach { IsInReach next }
     ensures sound { S.is_sound space.new }
-    ensures written { OnOk result (Both (WritesChunk place length next) (S.image space.old) (S.image space.new)) }
-    ensures bytes { Both (ChangesOnly (range place length ∷ [])) (S.image space.old) (S.image space.new) }
+    ensures written { OnOk result (Both (WritesChunk place length next)
+        (S.image space.old) (S.image space.new)) }
+    ensures bytes { Both (ChangesOnly (range place length ∷ []))
+        (S.image space.old) (S.image space.new) }
     ensures effect { ReadsFew 4 (S.state space.old) (S.state space.new) }
     ensures waiting { S.waiting space.new ≤ S.waiting space.old + 4 }
-    ensures cause { IfErr result (IsRefusal ⊥ (S.state space.old).faults (S.state space.new).faults) }
+    ensures cause { IfErr result (IsRefusal ⊥ (S.state space.old).faults
+        (S.state space.new).faults) }
 {
     let end = place + length - 4;
     let head = FreeHead {
@@ -177,7 +192,8 @@ fn first_in<S: Space>(space: &mut S, list: Class) -> Result<Option<u64>, AdfErro
     ensures reach { IfOk result IsInReach }
     ensures effect { ReadsFew 2 (S.state space.old) (S.state space.new) }
     ensures waiting { S.waiting space.new ≡ S.waiting space.old }
-    ensures cause { IfErr result (IsRefusal (ThreadsNone (S.image space.old)) (S.state space.old).faults (S.state space.new).faults) }
+    ensures cause { IfErr result (IsRefusal (ThreadsNone (S.image space.old))
+        (S.state space.old).faults (S.state space.new).faults) }
 {
     read_link(space, first_at(list))
 }
@@ -189,11 +205,14 @@ fn push<S: Space>(space: &mut S, place: u64, length: u64) -> Result<Option<u64>,
     requires long { 32 ≤ length }
     requires near { place + length ≤ 2 ^ 44 }
     ensures sound { S.is_sound space.new }
-    ensures written { IfOk result (λ first. Both (WritesGap place length first) (S.image space.old) (S.image space.new)) }
-    ensures bytes { Both (ChangesOnly (free_table ∷ range place length ∷ [])) (S.image space.old) (S.image space.new) }
+    ensures written { IfOk result (λ first. Both (WritesGap place length first)
+        (S.image space.old) (S.image space.new)) }
+    ensures bytes { Both (ChangesOnly (free_table ∷ range place length ∷ []))
+        (S.image space.old) (S.image space.new) }
     ensures effect { ReadsFew 10 (S.state space.old) (S.state space.new) }
     ensures waiting { S.waiting space.new ≤ S.waiting space.old + 6 }
-    ensures cause { IfErr result (IsRefusal (ThreadsNone (S.image space.old)) (S.state space.old).faults (S.state space.new).faults) }
+    ensures cause { IfErr result (IsRefusal (ThreadsNone (S.image space.old))
+        (S.state space.old).faults (S.state space.new).faults) }
 {
     let list = class_of(length);
     let first = first_in(space, list)?;
@@ -211,11 +230,14 @@ fn fill<S: Space>(space: &mut S, place: u64, length: u64) -> Result<(), AdfError
     requires short { length < 32 }
     requires near { place + length ≤ 2 ^ 44 }
     ensures sound { S.is_sound space.new }
-    ensures written { OnOk result (Both (WritesGap place length None) (S.image space.old) (S.image space.new)) }
-    ensures bytes { Both (ChangesOnly (free_table ∷ range place length ∷ [])) (S.image space.old) (S.image space.new) }
+    ensures written { OnOk result (Both (WritesGap place length None)
+        (S.image space.old) (S.image space.new)) }
+    ensures bytes { Both (ChangesOnly (free_table ∷ range place length ∷ []))
+        (S.image space.old) (S.image space.new) }
     ensures effect { ReadsFew 2 (S.state space.old) (S.state space.new) }
     ensures waiting { S.waiting space.new ≤ S.waiting space.old + 2 }
-    ensures cause { IfErr result (IsRefusal ⊥ (S.state space.old).faults (S.state space.new).faults) }
+    ensures cause { IfErr result (IsRefusal ⊥ (S.state space.old).faults
+        (S.state space.new).faults) }
 {
     let bytes = [b'z'; 32];
     write_field(space, place, &bytes[..length as usize])
@@ -231,11 +253,14 @@ pub(crate) fn write_gap<S: Space>(
     requires some { 0 < length }
     requires near { place + length ≤ 2 ^ 44 }
     ensures sound { S.is_sound space.new }
-    ensures written { IfOk result (λ first. Both (WritesGap place length first) (S.image space.old) (S.image space.new)) }
-    ensures bytes { Both (ChangesOnly (free_table ∷ range place length ∷ [])) (S.image space.old) (S.image space.new) }
+    ensures written { IfOk result (λ first. Both (WritesGap place length first)
+        (S.image space.old) (S.image space.new)) }
+    ensures bytes { Both (ChangesOnly (free_table ∷ range place length ∷ []))
+        (S.image space.old) (S.image space.new) }
     ensures effect { ReadsFew 10 (S.state space.old) (S.state space.new) }
     ensures waiting { S.waiting space.new ≤ S.waiting space.old + 6 }
-    ensures cause { IfErr result (IsRefusal (ThreadsNone (S.image space.old)) (S.state space.old).faults (S.state space.new).faults) }
+    ensures cause { IfErr result (IsRefusal (ThreadsNone (S.image space.old))
+        (S.state space.old).faults (S.state space.new).faults) }
 {
     if length < 32 {
         fill(space, place, length)?;

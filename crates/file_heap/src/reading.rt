@@ -56,17 +56,26 @@ pub(crate) fn read_list<S: Space>(
     requires sound { S.is_sound space.old }
     requires gaps { AreGaps (gaps_of read.now.slots.value) }
     requires few { read.now.chunks ≤ length read.now.slots.value }
-    requires threads { IfSome (S.image space.old) (λ bytes. ThreadsFreeChunks bytes (gaps_of read.now.slots.value)) }
-    requires before { IfSome (S.image space.old) (HasReadBelow (number_of list) (gaps_of read.now.slots.value) read.now.slots.value read.now.chunks) }
+    requires threads { IfSome (S.image space.old)
+        (λ bytes. ThreadsFreeChunks bytes (gaps_of read.now.slots.value)) }
+    requires before { IfSome (S.image space.old)
+        (HasReadBelow (number_of list) (gaps_of read.now.slots.value) read.now.slots.value
+        read.now.chunks) }
     ensures sound { S.is_sound space.new }
     ensures image { S.image space.new ≡ S.image space.old }
     ensures gaps { IfOk result (λ more. gaps_of more.slots.value ≡ gaps_of read.now.slots.value) }
-    ensures chunks { IfOk result (λ more. (read.now.chunks ≤ more.chunks) × (more.chunks ≤ length read.now.slots.value)) }
-    ensures read { IfOk result (λ more. IfSome (S.image space.old) (HasReadBelow (number_of list + 1) (gaps_of read.now.slots.value) more.slots.value more.chunks)) }
-    ensures once { IfOk result (λ more. ReadsFew (2 * (more.chunks - read.now.chunks + 1)) (S.state space.old) (S.state space.new)) }
-    ensures effect { ReadsFew (2 * (length read.now.slots.value - read.now.chunks + 1)) (S.state space.old) (S.state space.new) }
+    ensures chunks { IfOk result (λ more. (read.now.chunks ≤ more.chunks)
+        × (more.chunks ≤ length read.now.slots.value)) }
+    ensures read { IfOk result (λ more. IfSome (S.image space.old)
+        (HasReadBelow (number_of list + 1) (gaps_of read.now.slots.value) more.slots.value
+        more.chunks)) }
+    ensures once { IfOk result (λ more. ReadsFew (2 * (more.chunks - read.now.chunks + 1))
+        (S.state space.old) (S.state space.new)) }
+    ensures effect { ReadsFew (2 * (length read.now.slots.value - read.now.chunks + 1))
+        (S.state space.old) (S.state space.new) }
     ensures waiting { S.waiting space.new ≡ S.waiting space.old }
-    ensures cause { IfErr result (IsRefusal (IsUntold (S.image space.old)) (S.state space.old).faults (S.state space.new).faults) }
+    ensures cause { IfErr result (IsRefusal (IsUntold (S.image space.old))
+        (S.state space.old).faults (S.state space.new).faults) }
 {
     let mut slots = or_memory(read.slots.clone())?;
     let mut front = None;

@@ -163,7 +163,9 @@ fn are_joined(gap: Extent, next: Extent) -> bool
 pub(crate) fn join_at(alloc: Global, slots: &Rc<Tree>, i: usize) -> Result<Rc<Tree>, AllocError>
     requires there { i < length slots.now.value }
     requires short { AllEndBy (2 ^ 44) (gaps_of slots.now.value) }
-    ensures gaps { IfOk result (λ joined. gaps_of joined.value ≡ take i (gaps_of slots.now.value) ++ rule.before_gaps (gap_at (gaps_of slots.now.value) i) (drop (i + 1) (gaps_of slots.now.value))) }
+    ensures gaps { IfOk result (λ joined. gaps_of joined.value
+        ≡ take i (gaps_of slots.now.value) ++ rule.before_gaps (gap_at (gaps_of slots.now.value) i)
+        (drop (i + 1) (gaps_of slots.now.value))) }
     ensures chunks { IfOk result (λ joined. HasNoMore slots.now.value joined.value) }
 {
     let count = slots.len();
@@ -191,7 +193,8 @@ pub(crate) fn join_at(alloc: Global, slots: &Rc<Tree>, i: usize) -> Result<Rc<Tr
 #[tactic(auto, using(crate::proofs::SlotLaws::by_place, crate::proofs::SlotLaws::is_put, crate::proofs::SlotLaws::one_more))]
 pub(crate) fn put_in(alloc: Global, slots: &Tree, slot: Slot) -> Result<Rc<Tree>, AllocError>
     requires { AreGapsInOrder (gaps_of slots.now) }
-    ensures gaps { IfOk result (λ more. gaps_of more.value ≡ put_by_place slot.gap (gaps_of slots.now)) }
+    ensures gaps { IfOk result (λ more. gaps_of more.value
+        ≡ put_by_place slot.gap (gaps_of slots.now)) }
     ensures chunks { IfOk result (λ more. HasOneMore slot slots.now more.value) }
 {
     let i = slots.count_before(slot.gap.place);

@@ -35,10 +35,12 @@ pub(crate) fn grow<S: Space>(
     ensures grows { Grows limit n end.old result end.new }
     ensures threads { OnOk result (Both KeepsThreads (S.image space.old) (S.image space.new)) }
     ensures bytes { Both (ChangesOnly (end_pointer ∷ [])) (S.image space.old) (S.image space.new) }
-    ensures end { OnOk result (Both (MovesEnd end.old end.new) (S.image space.old) (S.image space.new)) }
+    ensures end { OnOk result (Both (MovesEnd end.old end.new)
+        (S.image space.old) (S.image space.new)) }
     ensures effect { ReadsFew 2 (S.state space.old) (S.state space.new) }
     ensures waiting { S.waiting space.new ≤ S.waiting space.old + 1 }
-    ensures cause { IfErr result (IsTakeRefusal (IsUntold (S.image space.old)) (S.state space.old).faults (S.state space.new).faults) }
+    ensures cause { IfErr result (IsTakeRefusal (IsUntold (S.image space.old))
+        (S.state space.old).faults (S.state space.new).faults) }
 {
     let last = *end + n;
     if limit * 4096 < last + 1 {
@@ -66,13 +68,18 @@ pub(crate) fn cut_front<S: Space>(
     requires gaps { AreGaps (gaps_of slots.now.value) }
     requires some { 1 ≤ n }
     requires fit { IsFirstFit n (gaps_of slots.now.value) i }
-    requires threads { IfSome (S.image space.old) (ThreadsSlots (gaps_of slots.now.value) slots.now.value) }
+    requires threads { IfSome (S.image space.old)
+        (ThreadsSlots (gaps_of slots.now.value) slots.now.value) }
     ensures sound { S.is_sound space.new }
-    ensures taken { IfOk result (λ rest. BecomeSlots (cut n (gaps_of slots.now.value)) slots.now.value rest.value (S.image space.old) (S.image space.new)) }
-    ensures bytes { Both (ChangesOnly (free_table ∷ filter is_free (gaps_of slots.now.value))) (S.image space.old) (S.image space.new) }
+    ensures taken { IfOk result (λ rest. BecomeSlots
+        (cut n (gaps_of slots.now.value)) slots.now.value rest.value
+        (S.image space.old) (S.image space.new)) }
+    ensures bytes { Both (ChangesOnly (free_table ∷ filter is_free (gaps_of slots.now.value)))
+        (S.image space.old) (S.image space.new) }
     ensures effect { ReadsFew 16 (S.state space.old) (S.state space.new) }
     ensures waiting { S.waiting space.new ≤ S.waiting space.old + 9 }
-    ensures cause { IfErr result (IsRefusal (IsUntold (S.image space.old)) (S.state space.old).faults (S.state space.new).faults) }
+    ensures cause { IfErr result (IsRefusal (IsUntold (S.image space.old))
+        (S.state space.old).faults (S.state space.new).faults) }
 {
     let gap = gap_of(slots, i);
     let rest = absorb(space, alloc, slots, i)?;

@@ -50,7 +50,8 @@ fn stands_before(gap: Extent, rest: &[Extent]) -> bool
 pub fn are_gaps(gaps: &[Extent], end: u64) -> bool
     requires { end ≤ 2 ^ 44 }
     ensures order { IsTrue result → AreGapsInOrder gaps.now }
-    ensures within { IsTrue result → AllByRecursion (λ (g : Extent). (266 ≤ g.place) × (end_of g ≤ end + 1)) gaps.now }
+    ensures within { IsTrue result
+        → AllByRecursion (λ (g : Extent). (266 ≤ g.place) × (end_of g ≤ end + 1)) gaps.now }
 {
     match gaps {
         [] => true,

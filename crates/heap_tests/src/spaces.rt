@@ -84,7 +84,13 @@ impl ReadBytes for Bytes {
 
     ghost image = { λ _. None };
 
-    ghost state = { λ s. record { held = None; faults = s.faults; lost = 0; reads = 0; writes = 0 } };
+    ghost state = { λ s. record {
+      held = None;
+      faults = s.faults;
+      lost = 0;
+      reads = 0;
+      writes = 0;
+    } };
 
     ghost is_sound = { λ _. Unit {0} };
 
