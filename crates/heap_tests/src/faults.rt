@@ -57,6 +57,25 @@ fn each_call_of_the_space_may_fail(rt: HostRuntime) -> Result<(), Fail> {
     each_call_may_fail(&rt, rt.alloc(), true)
 }
 
+/// How often the lists of the file are read: each of the three first pointers, and the one behind each of four chunks.
+const POINTERS: u64 = 7;
+
+#[test]
+fn each_read_of_the_lists_may_fail(rt: HostRuntime) -> Result<(), Fail> {
+    let before = chunks(rt.alloc())?;
+    let gaps = extents(rt.alloc(), &CHUNK_GAPS)?;
+    for k in 1..=POINTERS + 1 {
+        let mut space = before.copy(rt.alloc())?;
+        space.failing = k;
+        match new_heap(rt.alloc(), &mut space, &gaps, 9999) {
+            Ok(_) => assert!(rt; k > POINTERS && space.calls == POINTERS),
+            Err(AdfError::Memory) => return Err(AdfError::Memory)?,
+            Err(error) => assert!(rt; is_fault(error, &space), "at read {k}"),
+        }
+    }
+    Ok(())
+}
+
 // The heap, asked for again where memory is wanting, and then it is not.
 fn heap_again(
     rt: &impl Abort,

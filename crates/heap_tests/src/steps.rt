@@ -52,6 +52,11 @@ pub enum Step {
         medium: &'static [(u64, u64)],
         large: &'static [(u64, u64)],
     },
+    /// The text of a pointer in the space.
+    Pointer {
+        at: u64,
+        is: &'static [u8; 12],
+    },
     /// A range of the space, each byte of which is this one.
     Bytes {
         from: u64,
@@ -177,6 +182,7 @@ fn is_so(alloc: Global, heap: &Heap, space: &mut Bytes, step: Step) -> bool {
             medium,
             large,
         } => has_lists(space, [small, medium, large]),
+        Step::Pointer { at, is } => space.bytes_at::<12>(at) == Some(*is),
         Step::Bytes { from, to, are } => holds(space, from, to, are),
         _ => true,
     }

@@ -1,6 +1,6 @@
 //! Takes and gives on files made by hand, as tables of steps.
 use crate::spaces::{CHUNK_GAPS, Gap, blank, chunks, extents, nine_children};
-use crate::steps::{Step, has_gaps, is_refused_with, new_heap, run, run_on, take, undo};
+use crate::steps::{Step, ends_at, has_gaps, is_refused_with, new_heap, run, run_on, take, undo};
 use adf_chunks::ExtentKind::{Filler, FreeChunk};
 use adf_model::AdfError;
 use std::test::Fail;
@@ -284,45 +284,55 @@ fn chunks_of_three_lists_are_taken_and_given(rt: HostRuntime) -> Result<(), Fail
     Ok(())
 }
 
-/// Four calls that leave the gaps as they were after the first round.
-const A_ROUND: [Step; 4] = [
-    Step::Take {
-        n: 180,
-        place: 1000,
+/// Ten calls that leave the gaps as they were after the first round: each kind of neighbours of a range that is given, a chunk
+/// behind the end, and a rest that is a filler.
+const A_ROUND: [Step; 10] = [
+    Step::Take { n: 300, place: 758 },
+    Step::Take { n: 80, place: 3646 },
+    Step::Give { place: 758, n: 100 },
+    Step::Give { place: 958, n: 100 },
+    Step::Give { place: 858, n: 100 },
+    Step::Give { place: 3646, n: 80 },
+    Step::Take { n: 341, place: 758 },
+    Step::Give { place: 800, n: 299 },
+    Step::Take { n: 32, place: 800 },
+    Step::Give { place: 758, n: 74 },
+];
+
+/// What a hundred calls leave.
+const A_HUNDRED_CALLS: [Step; 4] = [
+    Step::Gaps {
+        are: &[(758, 372, FreeChunk), (3646, 80, FreeChunk)],
     },
-    Step::Give {
-        place: 1000,
-        n: 180,
+    Step::Lists {
+        small: &[(758, 372), (3646, 80)],
+        medium: &[],
+        large: &[],
     },
-    Step::Take {
-        n: 500,
-        place: 3000,
-    },
-    Step::Give {
-        place: 3000,
-        n: 500,
-    },
+    Step::End { is: 3725 },
+    Step::Last { is: 3725 },
 ];
 
 #[test]
 fn a_hundred_calls_are_undone(rt: HostRuntime) -> Result<(), Fail> {
-    let before = chunks(rt.alloc())?;
+    let before = nine_children(rt.alloc())?;
     let mut space = before.copy(rt.alloc())?;
-    let gaps = extents(rt.alloc(), &CHUNK_GAPS)?;
-    let mut heap = new_heap(rt.alloc(), &mut space, &gaps, 9999)?;
-    for _ in 0..25 {
+    let gaps = extents(rt.alloc(), &FIRST_TABLE)?;
+    let mut heap = new_heap(rt.alloc(), &mut space, &gaps, 3645)?;
+    for _ in 0..10 {
         run(&rt, rt.alloc(), &mut heap, &mut space, &A_ROUND)?;
     }
+    run(&rt, rt.alloc(), &mut heap, &mut space, &A_HUNDRED_CALLS)?;
     undo(&mut heap);
-    assert!(rt; has_gaps(rt.alloc(), &heap, &CHUNK_GAPS));
+    assert!(rt; has_gaps(rt.alloc(), &heap, &FIRST_TABLE) && ends_at(&heap, 3645));
     // the lists are those of the bytes before the calls
     space = before;
-    run(&rt, rt.alloc(), &mut heap, &mut space, &ANY_PLACE_OF_A_LIST)?;
+    run(&rt, rt.alloc(), &mut heap, &mut space, &A_SMALLER_CHUNK)?;
     Ok(())
 }
 
 /// Three of four nodes behind a table are deleted, that in the middle last.
-const THREE_NODES: [Step; 8] = [
+const THREE_NODES: [Step; 11] = [
     Step::Give {
         place: 1130,
         n: 246,
@@ -347,6 +357,18 @@ const THREE_NODES: [Step; 8] = [
         small: &[],
         medium: &[(1130, 738)],
         large: &[],
+    },
+    Step::Pointer {
+        at: 190,
+        is: b"000000001000",
+    },
+    Step::Pointer {
+        at: 214,
+        is: b"00000000046A",
+    },
+    Step::Pointer {
+        at: 226,
+        is: b"00000000046A",
     },
     Step::End { is: 1867 },
     Step::Last { is: 1867 },
