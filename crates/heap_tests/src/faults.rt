@@ -45,7 +45,7 @@ fn each_call_may_fail(rt: &impl Abort, alloc: Global, memory: bool) -> Result<()
             Err(error) => assert!(rt; is_fault(error, &space)),
         }
         undo(&mut heap);
-        assert!(rt; has_gaps(alloc, &heap, &CHUNK_GAPS));
+        assert!(rt; has_gaps(alloc, &heap, &CHUNK_GAPS)?);
         assert!(rt; ends_at(&heap, 9999));
     }
     Err("more calls than were to fail")?

@@ -81,12 +81,25 @@ pub fn new_heap(
     Heap::new(alloc, space, gaps, end, 1)
 }
 
-/// Whether the heap of a space is refused with an error.
-pub fn is_refused_with(alloc: Global, space: &mut Bytes, gaps: &Extents, wanted: AdfError) -> bool {
+/// Whether the heap of a space is refused with an error; where it wants memory, that is the answer.
+pub fn is_refused_with(
+    alloc: Global,
+    space: &mut Bytes,
+    gaps: &Extents,
+    wanted: AdfError,
+) -> Result<bool, AdfError> {
     match new_heap(alloc, space, gaps, 9999) {
-        Ok(_) => false,
-        Err(error) => error == wanted,
+        Ok(_) => Ok(false),
+        Err(error) => is_this(error, wanted),
     }
+}
+
+// Whether an error is that which is wanted; where it is want of memory, that is the answer.
+fn is_this(error: AdfError, wanted: AdfError) -> Result<bool, AdfError> {
+    if error == AdfError::Memory {
+        return Err(AdfError::Memory);
+    }
+    Ok(error == wanted)
 }
 
 pub fn take(heap: &mut Heap, space: &mut Bytes, n: u64) -> Result<u64, AdfError> {
@@ -132,19 +145,16 @@ pub fn are_these(gaps: &[Extent], wanted: &[Gap]) -> bool {
 }
 
 /// Whether the gaps of a heap are these, in this order.
-pub fn has_gaps(alloc: Global, heap: &Heap, wanted: &[Gap]) -> bool {
-    match heap.gaps(alloc) {
-        Ok(gaps) => are_these(gaps.items(), wanted),
-        Err(_) => false,
-    }
+pub fn has_gaps(alloc: Global, heap: &Heap, wanted: &[Gap]) -> Result<bool, AdfError> {
+    let gaps = heap.gaps(alloc)?;
+    Ok(are_these(gaps.items(), wanted))
 }
 
-// Whether a call is refused with an error; where it wants memory, that is the answer.
-fn is_refused(answer: Result<u64, AdfError>, wanted: AdfError) -> Result<bool, AdfError> {
+/// Whether a call is refused with an error; where it wants memory, that is the answer.
+pub fn is_refused(answer: Result<u64, AdfError>, wanted: AdfError) -> Result<bool, AdfError> {
     match answer {
         Ok(_) => Ok(false),
-        Err(AdfError::Memory) => Err(AdfError::Memory),
-        Err(error) => Ok(error == wanted),
+        Err(error) => is_this(error, wanted),
     }
 }
 
@@ -172,9 +182,11 @@ fn make(heap: &mut Heap, space: &mut Bytes, step: Step) -> Result<bool, AdfError
 }
 
 // Whether what is expected is so.
-fn is_so(alloc: Global, heap: &Heap, space: &mut Bytes, step: Step) -> bool {
-    match step {
-        Step::Gaps { are } => has_gaps(alloc, heap, are),
+fn is_so(alloc: Global, heap: &Heap, space: &mut Bytes, step: Step) -> Result<bool, AdfError> {
+    if let Step::Gaps { are } = step {
+        return has_gaps(alloc, heap, are);
+    }
+    Ok(match step {
         Step::End { is } => ends_at(heap, is),
         Step::Last { is } => names(space, 146, Some(is)),
         Step::Lists {
@@ -185,7 +197,7 @@ fn is_so(alloc: Global, heap: &Heap, space: &mut Bytes, step: Step) -> bool {
         Step::Pointer { at, is } => space.bytes_at::<12>(at) == Some(*is),
         Step::Bytes { from, to, are } => holds(space, from, to, are),
         _ => true,
-    }
+    })
 }
 
 /// Takes steps up to the first call that is refused, and stops the test at one that is not as expected.
@@ -201,7 +213,7 @@ pub fn run(
             assert!(rt; space.put(at, bytes), "at step {i}");
         }
         assert!(rt; make(heap, space, *step)?, "at step {i}");
-        assert!(rt; is_so(alloc, heap, space, *step), "at step {i}");
+        assert!(rt; is_so(alloc, heap, space, *step)?, "at step {i}");
     }
     Ok(())
 }

@@ -1,6 +1,8 @@
 //! Takes and gives on files made by hand, as tables of steps.
 use crate::spaces::{CHUNK_GAPS, Gap, blank, chunks, extents, nine_children};
-use crate::steps::{Step, ends_at, has_gaps, is_refused_with, new_heap, run, run_on, take, undo};
+use crate::steps::{
+    Step, ends_at, has_gaps, is_refused, is_refused_with, new_heap, run, run_on, take, undo,
+};
 use adf_chunks::ExtentKind::{Filler, FreeChunk};
 use adf_model::AdfError;
 use std::test::Fail;
@@ -324,7 +326,7 @@ fn a_hundred_calls_are_undone(rt: HostRuntime) -> Result<(), Fail> {
     }
     run(&rt, rt.alloc(), &mut heap, &mut space, &A_HUNDRED_CALLS)?;
     undo(&mut heap);
-    assert!(rt; has_gaps(rt.alloc(), &heap, &FIRST_TABLE) && ends_at(&heap, 3645));
+    assert!(rt; has_gaps(rt.alloc(), &heap, &FIRST_TABLE)? && ends_at(&heap, 3645));
     // the lists are those of the bytes before the calls
     space = before;
     run(&rt, rt.alloc(), &mut heap, &mut space, &A_SMALLER_CHUNK)?;
@@ -430,7 +432,7 @@ fn bytes_that_thread_no_lists_are_refused(rt: HostRuntime) -> Result<(), Fail> {
         let made = space.put(at, bytes);
         let layout = AdfError::Layout { rule, place };
         assert!(rt;
-            made && is_refused_with(rt.alloc(), &mut space, &gaps, layout),
+            made && is_refused_with(rt.alloc(), &mut space, &gaps, layout)?,
             "at {at}"
         );
     }
@@ -448,6 +450,6 @@ fn a_chunk_of_no_list_is_not_taken(rt: HostRuntime) -> Result<(), Fail> {
         rule: 30,
         place: 1500,
     };
-    assert!(rt; answer == Err(layout));
+    assert!(rt; is_refused(answer, layout)?);
     Ok(())
 }

@@ -38,12 +38,10 @@ fn tree_of(alloc: Global, gaps: &[Gap]) -> Result<Rc<Tree>, AllocError> {
     Tree::of(alloc, &slots)
 }
 
-fn has(alloc: Global, tree: &Tree, wanted: &[Gap]) -> bool {
+fn has(alloc: Global, tree: &Tree, wanted: &[Gap]) -> Result<bool, AllocError> {
     let mut gaps = Vec::new(alloc);
-    match tree.append_to(&mut gaps) {
-        Ok(()) => are_these(&gaps, wanted),
-        Err(_) => false,
-    }
+    tree.append_to(&mut gaps)?;
+    Ok(are_these(&gaps, wanted))
 }
 
 // The tree after a change, where there is such a gap.
@@ -58,11 +56,11 @@ fn changed(alloc: Global, tree: &Tree, step: Step) -> Result<Option<Rc<Tree>>, A
 }
 
 // Whether what is expected is so.
-fn is_so(alloc: Global, tree: &Tree, step: Step) -> bool {
+fn is_so(alloc: Global, tree: &Tree, step: Step) -> Result<bool, AllocError> {
     match step {
-        Step::Fit { n, at } => n > 0 && tree.first_fit(n) == at,
+        Step::Fit { n, at } => Ok(n > 0 && tree.first_fit(n) == at),
         Step::Gaps { are } => has(alloc, tree, are),
-        _ => true,
+        _ => Ok(true),
     }
 }
 
@@ -115,9 +113,9 @@ fn a_tree_is_changed_and_what_was_kept_is_not(rt: HostRuntime) -> Result<(), Fai
         if let Some(next) = changed(rt.alloc(), &tree, *step)? {
             tree = next;
         }
-        assert!(rt; is_so(rt.alloc(), &tree, *step), "at step {i}");
+        assert!(rt; is_so(rt.alloc(), &tree, *step)?, "at step {i}");
     }
-    assert!(rt; has(rt.alloc(), &kept, &THREE));
+    assert!(rt; has(rt.alloc(), &kept, &THREE)?);
     Ok(())
 }
 
@@ -152,7 +150,7 @@ fn is_emptied(alloc: Global, mut tree: Rc<Tree>) -> Result<bool, AllocError> {
         }
         tree = tree.removed(alloc, 0)?;
     }
-    Ok(has(alloc, &tree, &[]))
+    has(alloc, &tree, &[])
 }
 
 #[test]
