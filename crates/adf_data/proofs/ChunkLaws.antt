@@ -22,7 +22,7 @@ use Rattle.adf_format.specs.Spelled.{framed_text}
 use Rattle.adf_format.proofs.FieldLaws.{length-field}
 use Rattle.adf_format.proofs.FrameLaws.{field_kept}
 use Rattle.adf_format.proofs.WrittenParts.{chunk_written}
-use Rattle.file_heap.proofs.Images.{written}
+use Rattle.field_access.proofs.WriteLaws.{written}
 use Rattle.cg_io.specs.Answers.{Then}
 use Rattle.cg_io.proofs.BothLaws.{both_then, both_map}
 use Rattle.adf_data.specs.Ranges.{AreIn, byte_place}

@@ -16,7 +16,7 @@ use Rattle.adf_format.specs.Pointer.{To}
 use Rattle.adf_format.specs.Parts.{IsFramed, SpellsChunk, SpellsChunkEntry, payload, chunk_table_length}
 use Rattle.adf_format.specs.Tiles.{cover, end_of}
 use Rattle.adf_format.specs.Placement.{Heap, NodeParts, ChunkPart, extent, chunk_extents, chunk_table_extents}
-use Rattle.adf_format.specs.LaysOut.{HasChunkTable, ThreadsFreeChunks, payloads}
+use Rattle.adf_format.specs.LaysOut.{HasChunkTable, payloads}
 use Rattle.adf_format.specs.Changes.{heap_fields}
 use Rattle.adf_format.specs.HeapRule.{heap_take, give_all, chunk, chunk_length_for, payload_length, data_extents}
 use Rattle.adf_format.proofs.HeapLaws.{in_range, join_range}
@@ -296,20 +296,20 @@ module _ (table : Option ℕ) (parts : List ChunkPart) (n m place list : ℕ) (h
         ∙ over_front (payloads a parts) (replicate (n - 20) 0) was k (let l = length-payloads parts a in_a in omega (arith, l, enough))
         ∙ append_assoc (take was (payloads a parts)) (replicate k 0) (replicate (n - 20) 0) ∙ ap (λ t. take was (payloads a parts) ++ t) (replicate-append-replicate k (n - 20) 0)
 
-    pub heap_e : (h3 : Heap) → h3 ≡ give_all tables h2 → ThreadsFreeChunks d h3.gaps → KeepsHeap h3 h3 d e
+    pub heap_e : (h3 : FreeSpace) → h3.heap ≡ give_all tables h2 → IsThreaded h3 d → KeepsHeap h3.heap h3 d e
     heap_e h3 gives threads = heap_stays own h3 (λ x some. own_low es h0 may0 x (own_es x some)) none d e (changes_chunks parts was k d e in_front z.changes) threads
       where
-        none : (x : ℕ) → 0 < cover own x → cover h3.gaps x ≡ 0
+        none : (x : ℕ) → 0 < cover own x → cover h3.heap.gaps x ≡ 0
         none x some =
             let g = ap (λ (h : Heap). cover h.gaps x) gives in let c = cover-give_all tables h2 x in
             let r = given_by x in let o = own_given x some in omega (arith, g, c, r, o)
 
 -- ---- all calls
 
-module _ (limit : ℕ) (table : Option ℕ) (parts : List ChunkPart) (was added place list : ℕ) (now : DataPlace) (h0 h1 h2 h3 : Heap) (is0 : IsHeap h0) (is1 : IsHeap h1) (is2 : IsHeap h2)
+module _ (limit : ℕ) (table : Option ℕ) (parts : List ChunkPart) (was added place list : ℕ) (now : DataPlace) (h0 h1 h2 : Heap) (h3 : FreeSpace) (is0 : IsHeap h0) (is1 : IsHeap h1) (is2 : IsHeap h2)
     (takes1 : heap_take limit (chunk_length_for added) h0 ≡ Ok (place, h1)) (covers1 : TakesCover (chunk_length_for added) h0 h1 place) (within1 : IsTakenWithin (chunk_length_for added) h1 place)
     (takes2 : heap_take limit (chunk_table_length (length parts + 1)) h1 ≡ Ok (list, h2)) (covers2 : TakesCover (chunk_table_length (length parts + 1)) h1 h2 list) (within2 : IsTakenWithin (chunk_table_length (length parts + 1)) h2 list)
-    (gives : h3 ≡ give_all (chunk_table_extents table (length parts)) h2) (many : now.count ≡ length parts + 1) (points : view now.pointer ≡ To list) where
+    (gives : h3.heap ≡ give_all (chunk_table_extents table (length parts)) h2) (many : now.count ≡ length parts + 1) (points : view now.pointer ≡ To list) where
   grows1 : h0.end ≤ h1.end
   grows1 = take_end limit (chunk_length_for added) h0 place h1 takes1
 
@@ -317,10 +317,10 @@ module _ (limit : ℕ) (table : Option ℕ) (parts : List ChunkPart) (was added 
   grows2 = take_end limit (chunk_table_length (length parts + 1)) h1 list h2 takes2
 
   extended : (a b c d e : List ℕ) → PutsChunk [] 0 (chunk_length_for added) place h0 h1 a b → ChangesOnly (room_of h0 h1) a b → PutsTable (parts ++ chunk place (chunk_length_for added) ∷ []) list c → ChangesOnly (room_of h1 h2) b c
-      → ChangesOnly (heap_fields ++ chunk_table_extents table (length parts) ++ h2.gaps) c d → ZeroesBytes parts was (payload_length parts - was) d e → ThreadsFreeChunks d h3.gaps → MovesEnd h0.end h3.end a d → KeepsFillers h0.gaps h3.gaps a d
+      → ChangesOnly (heap_fields ++ chunk_table_extents table (length parts) ++ h2.gaps) c d → ZeroesBytes parts was (payload_length parts - was) d e → IsThreaded h3 d → MovesEnd h0.end h3.heap.end a d → KeepsFillers h0.gaps h3.heap.gaps a d
       → AreReady table parts was h0 a → Extends limit table parts was added now h0 h3 a e
   extended a b c d e put cb tab cc cd z threads end fillers ready =
-      let s : KeepsHeap h3 h3 d e = heap_e table parts (chunk_length_for added) (chunk_table_length (length parts + 1)) place list h0 h1 h2 is0 is1 is2 covers1 within1 grows1 covers2 within2 grows2 refl ready.apart was ready.enough a b c d e put cb tab cc cd z ready.spelled h3 gives threads in
+      let s : KeepsHeap h3.heap h3 d e = heap_e table parts (chunk_length_for added) (chunk_table_length (length parts + 1)) place list h0 h1 h2 is0 is1 is2 covers1 within1 grows1 covers2 within2 grows2 refl ready.apart was ready.enough a b c d e put cb tab cc cd z ready.spelled h3 gives threads in
       record {
         place = place;
         list = list;
@@ -344,16 +344,16 @@ module _ (limit : ℕ) (table : Option ℕ) (parts : List ChunkPart) (was added 
   SecondCall old new = PairOf (ChangesOnly (room_of h1 h2) old new) (PutsTable (parts ++ chunk place (chunk_length_for added) ∷ []) list new)
 
   abbrev ThirdCall : List ℕ → List ℕ → Type 0
-  ThirdCall old new = PairOf (ChangesOnly (heap_fields ++ chunk_table_extents table (length parts) ++ h2.gaps) old new) (ThreadsFreeChunks new h3.gaps)
+  ThirdCall old new = PairOf (ChangesOnly (heap_fields ++ chunk_table_extents table (length parts) ++ h2.gaps) old new) (IsThreaded h3 new)
 
   abbrev Kept : List ℕ → List ℕ → Type 0
-  Kept old new = PairOf (MovesEnd h0.end h3.end old new) (KeepsFillers h0.gaps h3.gaps old new)
+  Kept old new = PairOf (MovesEnd h0.end h3.heap.end old new) (KeepsFillers h0.gaps h3.heap.gaps old new)
 
   abbrev ThreeCalls : List ℕ → List ℕ → Type 0
   ThreeCalls old new = PairOf (Then (Then FirstCall SecondCall) ThirdCall old new) (Kept old new)
 
   pub all_extended : (a b c d e : Option (List ℕ)) → Both (PutsChunk [] 0 (chunk_length_for added) place h0 h1) a b → Both (ChangesOnly (room_of h0 h1)) a b → IfSome c (PutsTable (parts ++ chunk place (chunk_length_for added) ∷ []) list) → Both (ChangesOnly (room_of h1 h2)) b c
-      → Both (ChangesOnly (heap_fields ++ chunk_table_extents table (length parts) ++ h2.gaps)) c d → IfSome d (λ bytes. ThreadsFreeChunks bytes h3.gaps) → Both (MovesEnd h0.end h3.end) a d → Both (KeepsFillers h0.gaps h3.gaps) a d
+      → Both (ChangesOnly (heap_fields ++ chunk_table_extents table (length parts) ++ h2.gaps)) c d → IfSome d (IsThreaded h3) → Both (MovesEnd h0.end h3.heap.end) a d → Both (KeepsFillers h0.gaps h3.heap.gaps) a d
       → Both (ZeroesBytes parts was (payload_length parts - was)) d e → Both (ExtendsData limit table parts was added now h0 h3) a e
   all_extended a b c d e put cb tab cc cd threads end fillers z =
       both_map (Then ThreeCalls (ZeroesBytes parts was (payload_length parts - was))) (ExtendsData limit table parts was added now h0 h3) a e
@@ -364,16 +364,16 @@ module _ (limit : ℕ) (table : Option ℕ) (parts : List ChunkPart) (was added 
       (both_then FirstCall SecondCall a b c
       (both_and (PutsChunk [] 0 (chunk_length_for added) place h0 h1) (ChangesOnly (room_of h0 h1)) a b put cb)
       (both_told (ChangesOnly (room_of h1 h2)) (PutsTable (parts ++ chunk place (chunk_length_for added) ∷ []) list) b c cc tab))
-      (both_told (ChangesOnly (heap_fields ++ chunk_table_extents table (length parts) ++ h2.gaps)) (λ bytes. ThreadsFreeChunks bytes h3.gaps) c d cd threads))
-      (both_and (MovesEnd h0.end h3.end) (KeepsFillers h0.gaps h3.gaps) a d end fillers))
+      (both_told (ChangesOnly (heap_fields ++ chunk_table_extents table (length parts) ++ h2.gaps)) (IsThreaded h3) c d cd threads))
+      (both_and (MovesEnd h0.end h3.heap.end) (KeepsFillers h0.gaps h3.heap.gaps) a d end fillers))
       z)
 
 -- the same, where the lengths were computed
-pub long_extended : (limit : ℕ) (table : Option ℕ) (parts : List ChunkPart) (was added place list : ℕ) (now : DataPlace) (h0 h1 h2 h3 : Heap) → IsHeap h0 → IsHeap h1 → IsHeap h2
-    → h3 ≡ give_all (chunk_table_extents table (length parts)) h2 → now.count ≡ length parts + 1 → view now.pointer ≡ To list → (n m : ℕ) → n ≡ chunk_length_for added → m ≡ chunk_table_length (length parts + 1)
+pub long_extended : (limit : ℕ) (table : Option ℕ) (parts : List ChunkPart) (was added place list : ℕ) (now : DataPlace) (h0 h1 h2 : Heap) (h3 : FreeSpace) → IsHeap h0 → IsHeap h1 → IsHeap h2
+    → h3.heap ≡ give_all (chunk_table_extents table (length parts)) h2 → now.count ≡ length parts + 1 → view now.pointer ≡ To list → (n m : ℕ) → n ≡ chunk_length_for added → m ≡ chunk_table_length (length parts + 1)
     → heap_take limit n h0 ≡ Ok (place, h1) → TakesCover n h0 h1 place → IsTakenWithin n h1 place → heap_take limit m h1 ≡ Ok (list, h2) → TakesCover m h1 h2 list → IsTakenWithin m h2 list
     → (a b c d e : Option (List ℕ)) → Both (PutsChunk [] 0 n place h0 h1) a b → Both (ChangesOnly (room_of h0 h1)) a b → IfSome c (PutsTable (parts ++ chunk place n ∷ []) list) → Both (ChangesOnly (room_of h1 h2)) b c
-    → Both (ChangesOnly (heap_fields ++ chunk_table_extents table (length parts) ++ h2.gaps)) c d → IfSome d (λ bytes. ThreadsFreeChunks bytes h3.gaps) → Both (MovesEnd h0.end h3.end) a d → Both (KeepsFillers h0.gaps h3.gaps) a d
+    → Both (ChangesOnly (heap_fields ++ chunk_table_extents table (length parts) ++ h2.gaps)) c d → IfSome d (IsThreaded h3) → Both (MovesEnd h0.end h3.heap.end) a d → Both (KeepsFillers h0.gaps h3.heap.gaps) a d
     → Both (ZeroesBytes parts was (payload_length parts - was)) d e → Both (ExtendsData limit table parts was added now h0 h3) a e
 long_extended limit table parts was added place list now h0 h1 h2 h3 is0 is1 is2 gives many points n m en em takes1 covers1 within1 takes2 covers2 within2 a b c d e put cb tab cc cd threads end fillers z =
     all_extended limit table parts was added place list now h0 h1 h2 h3 is0 is1 is2

@@ -10,7 +10,6 @@ use Rattle.adf_format.specs.Pointer.{To}
 use Rattle.adf_format.specs.Parts.{SpellsChunk, payload}
 use Rattle.adf_format.specs.Tiles.{cover, end_of}
 use Rattle.adf_format.specs.Placement.{Heap, ChunkPart, chunk_extents, chunk_table_extents}
-use Rattle.adf_format.specs.LaysOut.{ThreadsFreeChunks}
 use Rattle.adf_format.specs.Changes.{heap_fields}
 use Rattle.adf_format.specs.HeapRule.{heap_take, give_all, chunk_length_for}
 use Rattle.adf_format.proofs.FieldLaws.{inner_field}
@@ -20,7 +19,7 @@ use Rattle.adf_format.proofs.HeapSteps.{cover-append}
 use Rattle.adf_model.specs.NodeData.{grown_range}
 use Rattle.disk_ptr.specs.View.{view}
 use Rattle.file_heap.specs.Links.{range}
-use Rattle.file_heap.specs.Heap.{IsHeap, ChangesOnly, MovesEnd, KeepsFillers, IsTakenWithin, TakesCover}
+use Rattle.file_heap.specs.Heap.{FreeSpace, IsThreaded, IsHeap, ChangesOnly, MovesEnd, KeepsFillers, IsTakenWithin, TakesCover}
 use Rattle.file_heap.proofs.HeapFacts.{once}
 use Rattle.file_heap.proofs.ChangeLaws.{widened, changes_then}
 use Rattle.adf_data.specs.declared.place.DataPlace.{DataPlace}
@@ -104,8 +103,8 @@ payload_kept place n old new le e = payload_of_field new place n le ∙ ap (λ t
 
 -- ---- gathered
 
-module _ (limit : ℕ) (table : Option ℕ) (parts : List ChunkPart) (was size place : ℕ) (now : DataPlace) (h0 h1 h2 : Heap) (is : IsHeap h0)
-    (covers : TakesCover (chunk_length_for size) h0 h1 place) (within : IsTakenWithin (chunk_length_for size) h1 place) (takes : heap_take limit (chunk_length_for size) h0 ≡ Ok (place, h1)) (gives : h2 ≡ give_all (extents_in table parts) h1) (one : now.count ≡ 1) (points : view now.pointer ≡ To place) where
+module _ (limit : ℕ) (table : Option ℕ) (parts : List ChunkPart) (was size place : ℕ) (now : DataPlace) (h0 h1 : Heap) (h2 : FreeSpace) (is : IsHeap h0)
+    (covers : TakesCover (chunk_length_for size) h0 h1 place) (within : IsTakenWithin (chunk_length_for size) h1 place) (takes : heap_take limit (chunk_length_for size) h0 ≡ Ok (place, h1)) (gives : h2.heap ≡ give_all (extents_in table parts) h1) (one : now.count ≡ 1) (points : view now.pointer ≡ To place) where
   abbrev n : ℕ
   n = chunk_length_for size
 
@@ -143,7 +142,7 @@ module _ (limit : ℕ) (table : Option ℕ) (parts : List ChunkPart) (was size p
       same = field_beside (heap_fields ++ es ++ h1.gaps) place n c d changes (chunk_within c place n put.spells) (beside_given ready.apart)
 
   pub all_gathered : (a c d : Option (List ℕ)) → Both (PutsChunk parts was n place h0 h1) a c → Both (ChangesOnly (heap_fields ++ es ++ h1.gaps)) c d
-      → IfSome d (λ bytes. ThreadsFreeChunks bytes h2.gaps) → Both (MovesEnd h0.end h2.end) a d → Both (KeepsFillers h0.gaps h2.gaps) a d
+      → IfSome d (IsThreaded h2) → Both (MovesEnd h0.end h2.heap.end) a d → Both (KeepsFillers h0.gaps h2.heap.gaps) a d
       → Both (GathersData limit table parts was size now h0 h2) a d
   all_gathered None c None put changes threads end fillers = tt
   all_gathered None c (Some d) put changes threads end fillers = end
@@ -188,9 +187,9 @@ later_refused es n place h0 h1 ranges a c is covers grows changes (inl u) = inl 
 later_refused es n place h0 h1 ranges a c is covers grows changes (inr none) = inr (λ may. none (still_may es h0 may n place h1 is covers grows))
 
 -- the same, where the length was computed
-pub long_gathered : (limit : ℕ) (table : Option ℕ) (parts : List ChunkPart) (was size place : ℕ) (now : DataPlace) (h0 h1 h2 : Heap) → IsHeap h0 → h2 ≡ give_all (extents_in table parts) h1 → now.count ≡ 1 → view now.pointer ≡ To place
+pub long_gathered : (limit : ℕ) (table : Option ℕ) (parts : List ChunkPart) (was size place : ℕ) (now : DataPlace) (h0 h1 : Heap) (h2 : FreeSpace) → IsHeap h0 → h2.heap ≡ give_all (extents_in table parts) h1 → now.count ≡ 1 → view now.pointer ≡ To place
     → (a c d : Option (List ℕ)) (n : ℕ) → n ≡ chunk_length_for size → TakesCover n h0 h1 place → IsTakenWithin n h1 place → heap_take limit n h0 ≡ Ok (place, h1) → Both (PutsChunk parts was n place h0 h1) a c
-    → Both (ChangesOnly (heap_fields ++ extents_in table parts ++ h1.gaps)) c d → IfSome d (λ bytes. ThreadsFreeChunks bytes h2.gaps) → Both (MovesEnd h0.end h2.end) a d → Both (KeepsFillers h0.gaps h2.gaps) a d → Both (GathersData limit table parts was size now h0 h2) a d
+    → Both (ChangesOnly (heap_fields ++ extents_in table parts ++ h1.gaps)) c d → IfSome d (IsThreaded h2) → Both (MovesEnd h0.end h2.heap.end) a d → Both (KeepsFillers h0.gaps h2.heap.gaps) a d → Both (GathersData limit table parts was size now h0 h2) a d
 long_gathered limit table parts was size place now h0 h1 h2 is gives one points a c d n e covers within takes put changes threads end fillers =
     all_gathered limit table parts was size place now h0 h1 h2 is (subst (λ m. TakesCover m h0 h1 place) e covers) (subst (λ m. IsTakenWithin m h1 place) e within) (subst (λ m. heap_take limit m h0 ≡ Ok (place, h1)) e takes) gives one points
     a c d (subst (λ m. Both (PutsChunk parts was m place h0 h1) a c) e put) changes threads end fillers

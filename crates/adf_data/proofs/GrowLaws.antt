@@ -27,7 +27,7 @@ use Rattle.adf_format.proofs.WrittenParts.{chunk_table_written}
 use Rattle.adf_model.specs.NodeData.{grown_range}
 use Rattle.file_heap.specs.Links.{range}
 use Rattle.file_heap.specs.Heap.{IsHeap, ChangesOnly, IsTakenWithin, TakesCover}
-use Rattle.file_heap.proofs.Images.{written}
+use Rattle.field_access.proofs.WriteLaws.{written}
 use Rattle.adf_data.specs.Chunks.{part_at}
 use Rattle.adf_data.specs.Ranges.{AreIn, byte_place}
 use Rattle.adf_data.specs.Fills.{IsBeside, MakesChunk}

@@ -2,8 +2,7 @@
 use Rattle.std.proofs.Common.{◌≡◌, ℕ, ◌≤◌, List, subst, ap, arith}
 use Rattle.std.specs.Prelude.{Option, None, Some, Result, Ok, Err, IfOk, IfErr, IfSome, OnErr}
 use Rattle.cg_io.specs.Blocks.{Both}
-use Rattle.cg_io.specs.Device.{DeviceState}
-use Rattle.cg_io.specs.Answers.{OnlyReads, IsRefusal, IsUntold}
+use Rattle.cg_io.specs.Answers.{IsRefusal}
 use Rattle.cg_io.proofs.ReadLaws.{rose_later}
 use Rattle.adf_format.specs.declared.types.Extent.{Extent}
 use Rattle.adf_model.specs.declared.error.AdfError.{AdfError}
@@ -13,23 +12,6 @@ use Rattle.adf_format.specs.Placement.{Heap}
 use Rattle.adf_format.specs.HeapRule.{heap_take}
 use Rattle.adf_format.proofs.HeapSteps.{take_end}
 use Rattle.adf_data.specs.Sizes.{IsGrowRefusal}
-
-pub looks_only : (a b : DeviceState) → heap.Looks a b → OnlyReads a b
-looks_only a b l = record { held = l.held; lost = l.lost; writes = l.writes; reads = l.reads; faults = l.faults }
-
-pub untold_too : (image : Option (List ℕ)) → heap.IsUntold image → IsUntold image
-untold_too None u = u
-untold_too (Some bytes) u = u
-
-refusal : (P Q : Type 0) (a b : ℕ) (e : AdfError) → (P → Q) → heap.IsRefusal P a b e → IsRefusal Q a b e
-refusal P Q a b error.Memory f h = h
-refusal P Q a b error.ReadFault f h = h
-refusal P Q a b (error.Layout rule place) f h = (h.0, f h.1)
-refusal P Q a b other f h = h
-
-pub all_refusals : {T : Type 0} (P Q : Type 0) (a b : ℕ) (r : Result T AdfError) → (P → Q) → IfErr r (heap.IsRefusal P a b) → IfErr r (IsRefusal Q a b)
-all_refusals P Q a b (Ok x) f h = h
-all_refusals P Q a b (Err e) f h = refusal P Q a b e f h
 
 -- ---- takes
 

@@ -8,17 +8,16 @@ use Rattle.cg_io.specs.Blocks.{Both, KeepsOutside}
 use Rattle.adf_format.specs.declared.types.Extent.{Extent}
 use Rattle.adf_format.specs.Tiles.{cover, end_of}
 use Rattle.adf_format.specs.Placement.{Heap}
-use Rattle.adf_format.specs.LaysOut.{ThreadsFreeChunks}
 use Rattle.adf_format.specs.Changes.{heap_fields}
 use Rattle.adf_format.proofs.HeapLaws.{in_range}
 use Rattle.adf_format.proofs.HeapSteps.{cover-append}
 use Rattle.adf_model.specs.NodeData.{grown_range}
 use Rattle.file_heap.specs.Links.{range}
-use Rattle.file_heap.specs.Heap.{IsHeap, ChangesOnly, MovesEnd, KeepsFillers, IsTakenWithin, TakesCover}
+use Rattle.file_heap.specs.Heap.{FreeSpace, IsThreaded, IsHeap, ChangesOnly, MovesEnd, KeepsFillers, IsTakenWithin, TakesCover}
 use Rattle.file_heap.specs.Beside.{AreBeside}
 use Rattle.file_heap.proofs.HeapFacts.{once}
 use Rattle.file_heap.proofs.Ranges.{cover_kinds}
-use Rattle.file_heap.proofs.Images.{refused_changed}
+use Rattle.field_access.proofs.WriteLaws.{all_changed}
 use Rattle.file_heap.proofs.ChangeLaws.{widened, changes_then}
 use Rattle.file_heap.proofs.Beside.{all_lists_stay, ends_stay, all_fillers_stay}
 use Rattle.adf_data.specs.Growing.{room_of}
@@ -99,29 +98,17 @@ module _ (n place : ℕ) (before after : Heap) (is : IsHeap before) (covers : Ta
   alone : (b : ℕ) → cover (range place n ∷ []) b ≡ in_range place n b + 0
   alone b = refl
 
-  low_bytes : (b : ℕ) → b < 266 → cover (range place n ∷ []) b ≡ 0
+  pub low_bytes : (b : ℕ) → b < 266 → cover (range place n ∷ []) b ≡ 0
   low_bytes b lt = let z = out_before (range place n) b (let w = within.0 in omega (arith, w, lt)) in let a = alone b in omega (arith, z, a)
+
+  pub beside_chunks : (b : ℕ) → 0 < cover after.gaps b → cover (range place n ∷ []) b ≡ 0
+  beside_chunks b some = let z = gaps_beside b some in let a = alone b in omega (arith, z, a)
 
   pub beside_lists : AreBeside (range place n ∷ []) after.gaps
   beside_lists = record {
     table = λ b low high. low_bytes b (omega (arith, high));
-    chunks = λ b some. let k = cover_kinds b after.gaps in let z = gaps_beside b (omega (arith, k, some)) in let a = alone b in omega (arith, z, a);
+    chunks = λ b some. beside_chunks b (let k = cover_kinds b after.gaps in omega (arith, k, some));
   }
-
-  -- the lists, the end pointer and the fillers stay where the range alone is written
-  module _ (old new : Option (List ℕ)) (writes : Both (KeepsOutside place n) old new) (threads : IfSome old (λ bytes. ThreadsFreeChunks bytes after.gaps)) where
-    changes : Both (ChangesOnly (range place n ∷ [])) old new
-    changes = refused_changed place n old new writes
-
-    pub threads_stay : IfSome new (λ bytes. ThreadsFreeChunks bytes after.gaps)
-    threads_stay = all_lists_stay (range place n ∷ []) after.gaps old new changes beside_lists threads
-
-    pub end_stays : Both (MovesEnd after.end after.end) old new
-    end_stays = ends_stay (range place n ∷ []) after.gaps after.end old new changes (λ b low high. low_bytes b (omega (arith, high))) threads
-
-    pub fillers_stay : Both (KeepsFillers after.gaps after.gaps) old new
-    fillers_stay = all_fillers_stay (range place n ∷ []) after.gaps old new changes
-        (λ b some. let k = cover_kinds b after.gaps in let z = gaps_beside b (omega (arith, k, some)) in let a = alone b in omega (arith, z, a))
 
   pub in_room : (b : ℕ) → cover (room_of before after) b ≡ 0 → cover (range place n ∷ []) b ≡ 0
   in_room b none =
@@ -133,4 +120,19 @@ module _ (n place : ℕ) (before after : Heap) (is : IsHeap before) (covers : Ta
   pub written_in_room : (old middle new : Option (List ℕ)) → Both (ChangesOnly (heap_fields ++ before.gaps)) old middle → Both (KeepsOutside place n) middle new → Both (ChangesOnly (room_of before after)) old new
   written_in_room old middle new takes writes =
       changes_then (room_of before after) old middle new (taken_in_room before after old middle takes)
-      (widened (range place n ∷ []) (room_of before after) middle new in_room (refused_changed place n middle new writes))
+      (widened (range place n ∷ []) (room_of before after) middle new in_room (all_changed place n middle new writes))
+
+-- the lists, the end pointer and the fillers stay where the range alone is written
+module _ (n place : ℕ) (before : Heap) (after : FreeSpace) (is : IsHeap before) (covers : TakesCover n before after.heap place) (within : IsTakenWithin n after.heap place)
+    (old new : Option (List ℕ)) (writes : Both (KeepsOutside place n) old new) (threads : IfSome old (IsThreaded after)) where
+  changes : Both (ChangesOnly (range place n ∷ [])) old new
+  changes = all_changed place n old new writes
+
+  pub threads_stay : IfSome new (IsThreaded after)
+  threads_stay = all_lists_stay (range place n ∷ []) after old new changes (beside_lists n place before after.heap is covers within) threads
+
+  pub end_stays : Both (MovesEnd after.heap.end after.heap.end) old new
+  end_stays = ends_stay (range place n ∷ []) after after.heap.end old new changes (λ b low high. low_bytes n place before after.heap is covers within b (omega (arith, high))) threads
+
+  pub fillers_stay : Both (KeepsFillers after.heap.gaps after.heap.gaps) old new
+  fillers_stay = all_fillers_stay (range place n ∷ []) after.heap.gaps old new changes (λ b some. beside_chunks n place before after.heap is covers within b (let k = cover_kinds b after.heap.gaps in omega (arith, k, some)))

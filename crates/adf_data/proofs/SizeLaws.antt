@@ -12,7 +12,7 @@ use Rattle.adf_format.specs.Tiles.{cover}
 use Rattle.adf_format.specs.Spelled.{pointer_to}
 use Rattle.adf_format.specs.Parts.{payload, chunk_table_length}
 use Rattle.adf_format.specs.Placement.{Placement, NodeParts, ChunkPart, Heap, chunk_extents, chunk_table_extents}
-use Rattle.adf_format.specs.LaysOut.{ThreadsFreeChunks, chunk_pointer, payloads}
+use Rattle.adf_format.specs.LaysOut.{chunk_pointer, payloads}
 use Rattle.adf_format.specs.Changes.{heap_fields}
 use Rattle.adf_format.proofs.HeapSteps.{cover-append, take_tells}
 use Rattle.adf_format.specs.HeapRule.{LimitReached, Taken, heap_take, take_from, is_fit, give_all, chunk_length_for, with_parts, after_gives, data_extents, chunk, in_one_chunk, in_one_more, payload_length, hold, ◌>>=◌}
@@ -24,7 +24,7 @@ use Rattle.disk_ptr.specs.View.{view}
 use Rattle.adf_data.specs.declared.place.DataPlace.{DataPlace}
 use Rattle.adf_data.specs.declared.chunks.Chunk.{Chunk}
 use Rattle.adf_data.specs.Chunks.{parts_of, AreNamed, Named}
-use Rattle.file_heap.specs.Heap.{ChangesOnly}
+use Rattle.file_heap.specs.Heap.{FreeSpace, IsThreaded, ChangesOnly}
 use Rattle.file_heap.proofs.ChangeLaws.{widened}
 use Rattle.adf_data.specs.Ranges.{AreIn, ChangesBytes}
 use Rattle.adf_data.specs.Fills.{ZeroesBytes}
@@ -130,7 +130,7 @@ chunk_room size = omega arith
 
 -- ---- the two ways to grow are the rule's
 
-module _ (limit : ℕ) (table : Option ℕ) (parts : List ChunkPart) (was size : ℕ) (now : DataPlace) (before later : Heap) (old new : List ℕ) where
+module _ (limit : ℕ) (table : Option ℕ) (parts : List ChunkPart) (was size : ℕ) (now : DataPlace) (before : Heap) (later : FreeSpace) (old new : List ℕ) where
   front_long : was ≤ length (payloads old parts) → length (take was (payloads old parts)) ≡ was
   front_long le = let t = length-take was (payloads old parts) in omega (arith, t, le)
 
@@ -200,18 +200,18 @@ begins_over xs was size le fits =
     zeros : length (replicate {A = ℕ} (size - was) 0) ≡ size - was
     zeros = length-replicate {A = ℕ} (size - was) 0
 
-module _ (limit : ℕ) (table : Option ℕ) (parts : List ChunkPart) (was size : ℕ) (at : DataPlace) (heap : Heap) (old new : List ℕ) where
+module _ (limit : ℕ) (table : Option ℕ) (parts : List ChunkPart) (was size : ℕ) (at : DataPlace) (space : FreeSpace) (old new : List ℕ) where
   abbrev there : NodeParts
   there = record { header = 0; table = None; chunks = parts; chunk_table = table }
 
-  cleared : 1 ≤ size → size ≤ payload_length parts → at.count ≡ length parts → view at.pointer ≡ pointer_to (chunk_pointer parts table) → ThreadsFreeChunks old heap.gaps → ZeroesBytes parts was (size - was) old new → AreReady table parts was heap old
-      → Grows limit table parts was size at heap heap old new
+  cleared : 1 ≤ size → size ≤ payload_length parts → at.count ≡ length parts → view at.pointer ≡ pointer_to (chunk_pointer parts table) → IsThreaded space old → ZeroesBytes parts was (size - was) old new → AreReady table parts was space.heap old
+      → Grows limit table parts was size at space.heap space old new
   cleared some fits count pointer threads z ready = record {
     chunks = parts;
     list = table;
     placed = λ node cs t.
-        ap (λ (xs : List ChunkPart). hold limit (alone (node, heap)) 0 size xs >>= λ (q : Placement). Ok (spot_of q)) cs ∙ placed_there limit (node, heap) size parts some fits
-        ∙ ap (λ (xs : List ChunkPart). Ok (record node { chunks = xs }, heap)) cs ∙ ap (λ (o : Option ℕ). Ok (record node { chunks = parts; chunk_table = o }, heap)) t;
+        ap (λ (xs : List ChunkPart). hold limit (alone (node, space.heap)) 0 size xs >>= λ (q : Placement). Ok (spot_of q)) cs ∙ placed_there limit (node, space.heap) size parts some fits
+        ∙ ap (λ (xs : List ChunkPart). Ok (record node { chunks = xs }, space.heap)) cs ∙ ap (λ (o : Option ℕ). Ok (record node { chunks = parts; chunk_table = o }, space.heap)) t;
     some = λ e. let p = ap payload_length e in omega (arith, p, some, fits);
     count = count;
     pointer = pointer;
@@ -220,7 +220,7 @@ module _ (limit : ℕ) (table : Option ℕ) (parts : List ChunkPart) (was size :
     begins =
         ap (take size) (payloads_zeroed parts was (size - was) old new (once_of parts (chunks_once there old new apart all (zeroes_payloads parts was (size - was) old new within z))) all within z)
         ∙ begins_over (payloads old parts) was size (let l = long in let e = ready.enough in omega (arith, l, e)) (let l = long in omega (arith, l, fits));
-    heap = heap_stays (chunk_extents parts) heap (λ b some. own_low (extents_in table parts) heap ready.apart b (own b some)) (λ b some. let g = own_gaps (extents_in table parts) heap ready.apart b in let o = own b some in omega (arith, g, o))
+    heap = heap_stays (chunk_extents parts) space (λ b some. own_low (extents_in table parts) space.heap ready.apart b (own b some)) (λ b some. let g = own_gaps (extents_in table parts) space.heap ready.apart b in let o = own b some in omega (arith, g, o))
         old new (changes_chunks parts was (size - was) old new within z.changes) threads;
   }
     where
@@ -237,7 +237,7 @@ module _ (limit : ℕ) (table : Option ℕ) (parts : List ChunkPart) (was size :
       own b some = let s = cover-append (chunk_table_extents table (length parts)) (chunk_extents parts) b in omega (arith, s, some)
 
       apart : AreApart there
-      apart b = let g = own_gaps (extents_in table parts) heap ready.apart b in omega (arith, g)
+      apart b = let g = own_gaps (extents_in table parts) space.heap ready.apart b in omega (arith, g)
 
 -- ---- what a place names
 
@@ -302,7 +302,7 @@ module _ (at : DataPlace) (chunks : List Chunk) (table : Option ℕ) (first read
           let s = cover-append (heap_fields ++ extents_in table (parts_of chunks)) (grown_range heap heap ∷ heap.gaps) b in let t = cover-append heap_fields (extents_in table (parts_of chunks)) b in
           let u = cover-append (chunk_table_extents table (length (parts_of chunks))) (chunk_extents (parts_of chunks)) b in omega (arith, none, s, t, u)
 
-  resizes : (limit size : ℕ) (now : DataPlace) (later : Heap) (old new : List ℕ) → first ≡ Some old → GrowsData limit table (parts_of chunks) was size now heap later old new → ResizesData limit was size at now heap later old new
+  resizes : (limit size : ℕ) (now : DataPlace) (later : FreeSpace) (old new : List ℕ) → first ≡ Some old → GrowsData limit table (parts_of chunks) was size now heap later old new → ResizesData limit was size at now heap later old new
   resizes limit size now later old new is grows parts bytes own = (
     record parts { chunks = g.chunks; chunk_table = g.list },
     record {
@@ -337,7 +337,7 @@ module _ (at : DataPlace) (chunks : List Chunk) (table : Option ℕ) (first read
       long : length (resized_from bytes size) ≡ size
       long = sym (ap length d) ∙ length-resized (take was (payloads old parts.chunks)) size
 
-  pub all_resize : (limit size : ℕ) (now : DataPlace) (later : Heap) (new : Option (List ℕ)) → Both (GrowsData limit table (parts_of chunks) was size now heap later) read new → Both (ResizesData limit was size at now heap later) first new
+  pub all_resize : (limit size : ℕ) (now : DataPlace) (later : FreeSpace) (new : Option (List ℕ)) → Both (GrowsData limit table (parts_of chunks) was size now heap later) read new → Both (ResizesData limit was size at now heap later) first new
   all_resize limit size now later new grows = by_image first refl (subst (λ (i : Option (List ℕ)). Both (GrowsData limit table (parts_of chunks) was size now heap later) i new) same grows)
     where
       by_both : (old last : Option (List ℕ)) → first ≡ old → Both (GrowsData limit table (parts_of chunks) was size now heap later) old last → Both (ResizesData limit was size at now heap later) old last
@@ -349,23 +349,25 @@ module _ (at : DataPlace) (chunks : List Chunk) (table : Option ℕ) (first read
       by_image : (old : Option (List ℕ)) → first ≡ old → Both (GrowsData limit table (parts_of chunks) was size now heap later) first new → Both (ResizesData limit was size at now heap later) first new
       by_image old is both = by_both first new refl both
 
-  -- the chunks have room
-  pub all_cleared : (limit size : ℕ) (new : Option (List ℕ)) → 1 ≤ size → size ≤ payload_length (parts_of chunks) → IfSome first (λ bytes. ThreadsFreeChunks bytes heap.gaps) → Both (ZeroesBytes (parts_of chunks) was (size - was)) read new
-      → Both (ResizesData limit was size at at heap heap) first new
+-- the chunks have room
+module _ (at : DataPlace) (chunks : List Chunk) (table : Option ℕ) (first read : Option (List ℕ)) (same : read ≡ first)
+    (says : (parts : NodeParts) → Named at parts first → parts_of chunks ≡ parts.chunks) (tells : (parts : NodeParts) → Named at parts first → table ≡ parts.chunk_table) (was : ℕ) (space : FreeSpace) where
+  pub all_cleared : (limit size : ℕ) (new : Option (List ℕ)) → 1 ≤ size → size ≤ payload_length (parts_of chunks) → IfSome first (IsThreaded space) → Both (ZeroesBytes (parts_of chunks) was (size - was)) read new
+      → Both (ResizesData limit was size at at space.heap space) first new
   all_cleared limit size new some fits threads z = by_image first new refl threads (subst (λ (i : Option (List ℕ)). Both (ZeroesBytes (parts_of chunks) was (size - was)) i new) same z)
     where
-      plain : (old new : List ℕ) → first ≡ Some old → ThreadsFreeChunks old heap.gaps → ZeroesBytes (parts_of chunks) was (size - was) old new → ResizesData limit was size at at heap heap old new
+      plain : (old new : List ℕ) → first ≡ Some old → IsThreaded space old → ZeroesBytes (parts_of chunks) was (size - was) old new → ResizesData limit was size at at space.heap space old new
       plain old new is threads z parts bytes own =
-          resizes limit size at heap old new is
-          (λ ready. cleared limit table (parts_of chunks) was size at heap old new some fits
+          resizes at chunks table first read same says tells was space.heap limit size at space old new is
+          (λ ready. cleared limit table (parts_of chunks) was size at space old new some fits
           (own.named.count ∙ ap length (sym (says parts named))) (own.named.pointer ∙ ap (λ (xs : List ChunkPart). pointer_to (chunk_pointer xs parts.chunk_table)) (sym (says parts named)) ∙ ap (λ (o : Option ℕ). pointer_to (chunk_pointer (parts_of chunks) o)) (sym (tells parts named)))
           threads z ready)
           parts bytes own
         where
           named : Named at parts first
-          named = subst (Named at parts) (sym is) (own_named at was parts bytes heap old own)
+          named = subst (Named at parts) (sym is) (own_named at was parts bytes space.heap old own)
 
-      by_image : (old new : Option (List ℕ)) → first ≡ old → IfSome old (λ bytes. ThreadsFreeChunks bytes heap.gaps) → Both (ZeroesBytes (parts_of chunks) was (size - was)) old new → Both (ResizesData limit was size at at heap heap) old new
+      by_image : (old new : Option (List ℕ)) → first ≡ old → IfSome old (IsThreaded space) → Both (ZeroesBytes (parts_of chunks) was (size - was)) old new → Both (ResizesData limit was size at at space.heap space) old new
       by_image None None is threads z = tt
       by_image None (Some x) is threads z = z
       by_image (Some o) None is threads z = z
@@ -406,13 +408,13 @@ more_full_at limit size added count heap full less few (inr e) =
 
 -- ---- growing, where bytes are told
 
-pub all_gathers_grow : (limit : ℕ) (table : Option ℕ) (parts : List ChunkPart) (was size : ℕ) (now : DataPlace) (before later : Heap) (old new : Option (List ℕ)) → was ≤ payload_length parts → payload_length parts < size → (length parts ≡ 0) ⊎ (64 ≤ length parts)
+pub all_gathers_grow : (limit : ℕ) (table : Option ℕ) (parts : List ChunkPart) (was size : ℕ) (now : DataPlace) (before : Heap) (later : FreeSpace) (old new : Option (List ℕ)) → was ≤ payload_length parts → payload_length parts < size → (length parts ≡ 0) ⊎ (64 ≤ length parts)
     → Both (GathersData limit table parts was size now before later) old new → Both (GrowsData limit table parts was size now before later) old new
 all_gathers_grow limit table parts was size now before later old new le more many both =
     both_map (GathersData limit table parts was size now before later) (GrowsData limit table parts was size now before later) old new
     (λ o n g ready. gathers_grow limit table parts was size now before later o n (omega (arith, le, more)) more many (let l = length-payloads parts o (spelled_in o parts ready.spelled) in omega (arith, l, le)) (g ready)) both
 
-pub all_extends_grow : (limit : ℕ) (table : Option ℕ) (parts : List ChunkPart) (was added size : ℕ) (now : DataPlace) (before later : Heap) (old new : Option (List ℕ)) → was ≤ payload_length parts → payload_length parts < size → 1 ≤ length parts → length parts < 64
+pub all_extends_grow : (limit : ℕ) (table : Option ℕ) (parts : List ChunkPart) (was added size : ℕ) (now : DataPlace) (before : Heap) (later : FreeSpace) (old new : Option (List ℕ)) → was ≤ payload_length parts → payload_length parts < size → 1 ≤ length parts → length parts < 64
     → added ≡ size - payload_length parts → Both (ExtendsData limit table parts was added now before later) old new → Both (GrowsData limit table parts was size now before later) old new
 all_extends_grow limit table parts was added size now before later old new le more some few is both =
     both_map (ExtendsData limit table parts was added now before later) (GrowsData limit table parts was size now before later) old new

@@ -7,12 +7,12 @@ use Rattle.cg_io.specs.Blocks.{Both}
 use Rattle.adf_format.specs.declared.types.Extent.{Extent}
 use Rattle.adf_format.specs.Tiles.{cover}
 use Rattle.adf_format.specs.Placement.{Heap, ChunkPart, chunk_extents}
-use Rattle.adf_format.specs.LaysOut.{ThreadsFreeChunks, payloads}
+use Rattle.adf_format.specs.LaysOut.{payloads}
 use Rattle.adf_format.specs.HeapRule.{payload_length}
 use Rattle.adf_model.specs.Selection.{written_over}
-use Rattle.file_heap.specs.Heap.{ChangesOnly}
+use Rattle.file_heap.specs.Heap.{FreeSpace, IsThreaded, ChangesOnly}
 use Rattle.file_heap.proofs.Ranges.{cover_kinds}
-use Rattle.file_heap.proofs.Beside.{lists_stay, ends_stay, all_fillers_stay}
+use Rattle.file_heap.proofs.Beside.{all_lists_stay, ends_stay, all_fillers_stay}
 use Rattle.adf_data.specs.Ranges.{AreIn, AreOnce, byte_place, ChangesBytes, WritesBytes}
 use Rattle.adf_data.specs.Fills.{ZeroesBytes}
 use Rattle.adf_data.specs.Runs.{ChangesPayloads}
@@ -83,24 +83,24 @@ all_changes_chunks parts first n (Some old) (Some new) le z = changes_chunks par
 
 -- ---- the heap stays where ranges beside it change
 
-module _ (es : List Extent) (heap : Heap) (low : (b : ℕ) → 0 < cover es b → 266 ≤ b) (apart : (b : ℕ) → 0 < cover es b → cover heap.gaps b ≡ 0) (old new : List ℕ) (c : ChangesOnly es old new) (threads : ThreadsFreeChunks old heap.gaps) where
+module _ (es : List Extent) (space : FreeSpace) (low : (b : ℕ) → 0 < cover es b → 266 ≤ b) (apart : (b : ℕ) → 0 < cover es b → cover space.heap.gaps b ≡ 0) (old new : List ℕ) (c : ChangesOnly es old new) (threads : IsThreaded space old) where
   none_low : (b : ℕ) → b < 266 → cover es b ≡ 0
   none_low b lt = elim (cases_lt 0 (cover es b)) [
     | inl some ↦ absurd (let l = low b some in omega (arith, l, lt))
     | inr none ↦ omega (arith, none)
   ]
 
-  none_in_gaps : (b : ℕ) → 0 < cover heap.gaps b → cover es b ≡ 0
+  none_in_gaps : (b : ℕ) → 0 < cover space.heap.gaps b → cover es b ≡ 0
   none_in_gaps b gap = elim (cases_lt 0 (cover es b)) [
     | inl some ↦ absurd (let a = apart b some in omega (arith, a, gap))
     | inr none ↦ omega (arith, none)
   ]
 
-  pub heap_stays : KeepsHeap heap heap old new
+  pub heap_stays : KeepsHeap space.heap space old new
   heap_stays = record {
-    threads = lists_stay es old new c heap.gaps (record { table = λ b low high. none_low b (omega (arith, high)); chunks = λ b some. none_in_gaps b (let k = cover_kinds b heap.gaps in omega (arith, k, some)) }) threads;
-    end = ends_stay es heap.gaps heap.end (Some old) (Some new) c (λ b low high. none_low b (omega (arith, high))) threads;
-    fillers = all_fillers_stay es heap.gaps (Some old) (Some new) c (λ b some. none_in_gaps b (let k = cover_kinds b heap.gaps in omega (arith, k, some)));
+    threads = all_lists_stay es space (Some old) (Some new) c (record { table = λ b low high. none_low b (omega (arith, high)); chunks = λ b some. none_in_gaps b (let k = cover_kinds b space.heap.gaps in omega (arith, k, some)) }) threads;
+    end = ends_stay es space space.heap.end (Some old) (Some new) c (λ b low high. none_low b (omega (arith, high))) threads;
+    fillers = all_fillers_stay es space.heap.gaps (Some old) (Some new) c (λ b some. none_in_gaps b (let k = cover_kinds b space.heap.gaps in omega (arith, k, some)));
   }
 
 -- ---- the bytes

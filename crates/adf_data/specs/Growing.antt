@@ -8,13 +8,13 @@ use Rattle.adf_format.specs.Parts.{SpellsChunk, payload, chunk_table_length}
 use Rattle.adf_format.specs.Records.{chunk_entry_text}
 use Rattle.adf_format.specs.Tiles.{cover}
 use Rattle.adf_format.specs.Placement.{Heap, NodeParts, ChunkPart, chunk_table_extents}
-use Rattle.adf_format.specs.LaysOut.{HasChunkTable, ThreadsFreeChunks, chunk_pointer, payloads}
+use Rattle.adf_format.specs.LaysOut.{HasChunkTable, chunk_pointer, payloads}
 use Rattle.adf_format.specs.Spelled.{pointer_to}
 use Rattle.adf_format.specs.Changes.{heap_fields}
 use Rattle.adf_format.specs.HeapRule.{LimitReached, heap_take, give_all, chunk, chunk_length_for, payload_length, data_extents}
 use Rattle.adf_model.specs.Edits.{resized}
 use Rattle.adf_model.specs.NodeData.{DataSpot, HoldsData, resized_spot, resized_from, grown_range}
-use Rattle.file_heap.specs.Heap.{MovesEnd, KeepsFillers}
+use Rattle.file_heap.specs.Heap.{FreeSpace, IsThreaded, MovesEnd, KeepsFillers}
 use Rattle.adf_data.specs.declared.place.DataPlace.{DataPlace}
 use Rattle.adf_data.specs.Ranges.{AreIn, byte_place}
 use Rattle.adf_data.specs.Runs.{Names}
@@ -54,14 +54,15 @@ IsSizeOf size None = size ≡ 0
 IsSizeOf size (Some bytes) = size ≡ length bytes
 
 -- The data have a size: the chunks stand where the rule places them, the place names them, they hold the first bytes that were
--- there and zeros behind them; the lists thread the free chunks, the end pointer follows the end, and fillers stay so.
-pub record Resizes (limit size : ℕ) (now : DataPlace) (bytes : Option (List ℕ)) (spot after : DataSpot) (old new : List ℕ) : Type 0 where
-  pub placed : resized_spot limit size spot ≡ Ok after
-  pub named : Names now after.0
-  pub holds : HoldsData new after.0 (Some (resized_from bytes size))
-  pub threads : ThreadsFreeChunks new after.1.gaps
-  pub end : MovesEnd spot.1.end after.1.end old new
-  pub fillers : KeepsFillers spot.1.gaps after.1.gaps old new
+-- there and zeros behind them; the lists thread the free chunks as they are remembered, the end pointer follows the end, and fillers
+-- stay so.
+pub record Resizes (limit size : ℕ) (now : DataPlace) (bytes : Option (List ℕ)) (spot : DataSpot) (after : NodeParts) (later : FreeSpace) (old new : List ℕ) : Type 0 where
+  pub placed : resized_spot limit size spot ≡ Ok (after, later.heap)
+  pub named : Names now after
+  pub holds : HoldsData new after (Some (resized_from bytes size))
+  pub threads : IsThreaded later new
+  pub end : MovesEnd spot.1.end later.heap.end old new
+  pub fillers : KeepsFillers spot.1.gaps later.heap.gaps old new
 
 -- chunks that the place names in these bytes hold data of a size, and may be given
 pub record AreOwn (at : DataPlace) (size : ℕ) (parts : NodeParts) (bytes : Option (List ℕ)) (heap : Heap) (image : List ℕ) : Type 0 where
@@ -76,10 +77,10 @@ Owns at size parts bytes heap None = ⊥
 Owns at size parts bytes heap (Some image) = AreOwn at size parts bytes heap image
 
 -- whatever data the place names, they have the size afterwards
-abbrev pub ResizesData : ℕ → ℕ → ℕ → DataPlace → DataPlace → Heap → Heap → List ℕ → List ℕ → Type 0
+abbrev pub ResizesData : ℕ → ℕ → ℕ → DataPlace → DataPlace → Heap → FreeSpace → List ℕ → List ℕ → Type 0
 ResizesData limit was size at now before later old new =
     (parts : NodeParts) (bytes : Option (List ℕ)) → AreOwn at was parts bytes before old
-    → (after : NodeParts) × Resizes limit size now bytes (parts, before) (after, later) old new
+    → (after : NodeParts) × Resizes limit size now bytes (parts, before) after later old new
 
 -- ---- the two ways to grow
 
@@ -94,35 +95,35 @@ pub record AreReady (table : Option ℕ) (parts : List ChunkPart) (was : ℕ) (h
   pub apart : MayGiveAll (extents_in table parts) heap
 
 -- what is added to data stands in the heap as before: lists, end pointer and fillers
-pub record KeepsHeap (before later : Heap) (old new : List ℕ) : Type 0 where
-  pub threads : ThreadsFreeChunks new later.gaps
-  pub end : MovesEnd before.end later.end old new
-  pub fillers : KeepsFillers before.gaps later.gaps old new
+pub record KeepsHeap (before : Heap) (later : FreeSpace) (old new : List ℕ) : Type 0 where
+  pub threads : IsThreaded later new
+  pub end : MovesEnd before.end later.heap.end old new
+  pub fillers : KeepsFillers before.gaps later.heap.gaps old new
 
 -- the data were gathered in one new chunk, and the old chunks and their table given
-pub record Gathers (limit : ℕ) (table : Option ℕ) (parts : List ChunkPart) (was size : ℕ) (now : DataPlace) (before later : Heap) (old new : List ℕ) : Type 0 where
+pub record Gathers (limit : ℕ) (table : Option ℕ) (parts : List ChunkPart) (was size : ℕ) (now : DataPlace) (before : Heap) (later : FreeSpace) (old new : List ℕ) : Type 0 where
   pub place : ℕ
   pub between : Heap
   pub taken : heap_take limit (chunk_length_for size) before ≡ Ok (place, between)
-  pub gives : later ≡ give_all (extents_in table parts) between
+  pub gives : later.heap ≡ give_all (extents_in table parts) between
   pub count : now.count ≡ 1
   pub pointer : view now.pointer ≡ To place
   pub spells : SpellsChunk (field new place (chunk_length_for size)) place (chunk_length_for size)
   pub body : payload new place (chunk_length_for size) ≡ take was (payloads old parts) ++ replicate (chunk_length_for size - 20 - was) 0
   pub heap : KeepsHeap before later old new
 
-abbrev pub GathersData : ℕ → Option ℕ → List ChunkPart → ℕ → ℕ → DataPlace → Heap → Heap → List ℕ → List ℕ → Type 0
+abbrev pub GathersData : ℕ → Option ℕ → List ChunkPart → ℕ → ℕ → DataPlace → Heap → FreeSpace → List ℕ → List ℕ → Type 0
 GathersData limit table parts was size now before later old new = AreReady table parts was before old → Gathers limit table parts was size now before later old new
 
 -- one more chunk was put behind the others, and a table of all, and the old table given
-pub record Extends (limit : ℕ) (table : Option ℕ) (parts : List ChunkPart) (was added : ℕ) (now : DataPlace) (before later : Heap) (old new : List ℕ) : Type 0 where
+pub record Extends (limit : ℕ) (table : Option ℕ) (parts : List ChunkPart) (was added : ℕ) (now : DataPlace) (before : Heap) (later : FreeSpace) (old new : List ℕ) : Type 0 where
   pub place : ℕ
   pub list : ℕ
   pub middle : Heap
   pub between : Heap
   pub chunk_taken : heap_take limit (chunk_length_for added) before ≡ Ok (place, middle)
   pub table_taken : heap_take limit (chunk_table_length (length parts + 1)) middle ≡ Ok (list, between)
-  pub gives : later ≡ give_all (chunk_table_extents table (length parts)) between
+  pub gives : later.heap ≡ give_all (chunk_table_extents table (length parts)) between
   pub count : now.count ≡ length parts + 1
   pub pointer : view now.pointer ≡ To list
   pub table_stands : HasChunkTable new (parts ++ chunk place (chunk_length_for added) ∷ []) (Some list)
@@ -130,7 +131,7 @@ pub record Extends (limit : ℕ) (table : Option ℕ) (parts : List ChunkPart) (
   pub body : payloads new (parts ++ chunk place (chunk_length_for added) ∷ []) ≡ take was (payloads old parts) ++ replicate (payload_length parts - was + (chunk_length_for added - 20)) 0
   pub heap : KeepsHeap before later old new
 
-abbrev pub ExtendsData : ℕ → Option ℕ → List ChunkPart → ℕ → ℕ → DataPlace → Heap → Heap → List ℕ → List ℕ → Type 0
+abbrev pub ExtendsData : ℕ → Option ℕ → List ChunkPart → ℕ → ℕ → DataPlace → Heap → FreeSpace → List ℕ → List ℕ → Type 0
 ExtendsData limit table parts was added now before later old new = AreReady table parts was before old → Extends limit table parts was added now before later old new
 
 -- one of two takes in a row is refused
@@ -140,10 +141,10 @@ IsFullAt limit n m heap full =
 
 -- the data got a size: the chunks stand where the rule places them, with their table, and begin with the first bytes that were
 -- there and zeros
-pub record Grows (limit : ℕ) (table : Option ℕ) (parts : List ChunkPart) (was size : ℕ) (now : DataPlace) (before later : Heap) (old new : List ℕ) : Type 0 where
+pub record Grows (limit : ℕ) (table : Option ℕ) (parts : List ChunkPart) (was size : ℕ) (now : DataPlace) (before : Heap) (later : FreeSpace) (old new : List ℕ) : Type 0 where
   pub chunks : List ChunkPart
   pub list : Option ℕ
-  pub placed : (at : NodeParts) → at.chunks ≡ parts → at.chunk_table ≡ table → resized_spot limit size (at, before) ≡ Ok (record at { chunks = chunks; chunk_table = list }, later)
+  pub placed : (at : NodeParts) → at.chunks ≡ parts → at.chunk_table ≡ table → resized_spot limit size (at, before) ≡ Ok (record at { chunks = chunks; chunk_table = list }, later.heap)
   pub some : chunks ≢ []
   pub count : now.count ≡ length chunks
   pub pointer : view now.pointer ≡ pointer_to (chunk_pointer chunks list)
@@ -152,7 +153,7 @@ pub record Grows (limit : ℕ) (table : Option ℕ) (parts : List ChunkPart) (wa
   pub begins : take size (payloads new chunks) ≡ resized (take was (payloads old parts)) size
   pub heap : KeepsHeap before later old new
 
-abbrev pub GrowsData : ℕ → Option ℕ → List ChunkPart → ℕ → ℕ → DataPlace → Heap → Heap → List ℕ → List ℕ → Type 0
+abbrev pub GrowsData : ℕ → Option ℕ → List ChunkPart → ℕ → ℕ → DataPlace → Heap → FreeSpace → List ℕ → List ℕ → Type 0
 GrowsData limit table parts was size now before later old new = AreReady table parts was before old → Grows limit table parts was size now before later old new
 
 -- the rule refuses the size for such chunks

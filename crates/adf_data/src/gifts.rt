@@ -7,8 +7,7 @@ ghost use Rattle.cg_io.specs.Answers.{OnlyReads, IsRefusal};
 ghost use Rattle.adf_format.specs.Placement.{chunk_extents, chunk_table_extents};
 ghost use Rattle.adf_format.specs.Changes.{heap_fields};
 ghost use Rattle.adf_format.specs.HeapRule.{give_all, pairs};
-ghost use Rattle.adf_format.specs.LaysOut.{ThreadsFreeChunks};
-ghost use Rattle.file_heap.specs.Heap.{IsHeap, ChangesOnly, MovesEnd, KeepsFillers};
+ghost use Rattle.file_heap.specs.Heap.{IsHeap, IsThreaded, ChangesOnly, MovesEnd, KeepsFillers};
 ghost use Rattle.adf_data.specs.Chunks.{parts_of, IsSane};
 ghost use Rattle.adf_data.specs.Sizes.{extents_in, Ungivable};
 
@@ -23,29 +22,28 @@ use file_heap::Heap;
 fn give_chunks<S: Space>(heap: &mut Heap, space: &mut S, chunks: &[Chunk]) -> Result<(), AdfError>
     requires sound { S.is_sound space.old }
     requires sane { All IsSane chunks.now }
-    requires heap { IsHeap heap.old.now }
-    requires threads { IfSome (S.image space.old)
-        (λ bytes. ThreadsFreeChunks bytes heap.old.now.gaps) }
+    requires heap { IsHeap heap.old.work.heap }
+    requires threads { IfSome (S.image space.old) (IsThreaded heap.old.work) }
     ensures sound { S.is_sound space.new }
-    ensures gives { OnOk result (heap.new.now ≡ give_all
-        (chunk_extents (parts_of chunks.now)) heap.old.now) }
+    ensures gives { OnOk result (heap.new.work.heap ≡ give_all
+        (chunk_extents (parts_of chunks.now)) heap.old.work.heap) }
     ensures kept { heap.new.kept ≡ heap.old.kept }
     ensures limit { heap.new.limit ≡ heap.old.limit }
-    ensures last { heap.new.now.end ≡ heap.old.now.end }
-    ensures heap { IsHeap heap.new.now }
-    ensures pairs { pairs heap.new.now.gaps ≤ pairs heap.old.now.gaps }
-    ensures threads { OnOk result (IfSome (S.image space.new)
-        (λ bytes. ThreadsFreeChunks bytes heap.new.now.gaps)) }
+    ensures last { heap.new.work.heap.end ≡ heap.old.work.heap.end }
+    ensures heap { IsHeap heap.new.work.heap }
+    ensures pairs { pairs heap.new.work.heap.gaps ≤ pairs heap.old.work.heap.gaps }
+    ensures threads { OnOk result (IfSome (S.image space.new) (IsThreaded heap.new.work)) }
     ensures bytes { Both (ChangesOnly (heap_fields ++ chunk_extents (parts_of chunks.now)
-        ++ heap.old.now.gaps)) (S.image space.old) (S.image space.new) }
-    ensures end { OnOk result (Both (MovesEnd heap.old.now.end heap.new.now.end) (S.image space.old)
-        (S.image space.new)) }
-    ensures fillers { OnOk result (Both (KeepsFillers heap.old.now.gaps heap.new.now.gaps)
+        ++ heap.old.work.heap.gaps)) (S.image space.old) (S.image space.new) }
+    ensures end { OnOk result (Both (MovesEnd heap.old.work.heap.end heap.new.work.heap.end)
+        (S.image space.old) (S.image space.new)) }
+    ensures fillers { OnOk result (Both
+        (KeepsFillers heap.old.work.heap.gaps heap.new.work.heap.gaps)
         (S.image space.old) (S.image space.new)) }
     ensures effect { OnlyReads (S.state space.old) (S.state space.new) }
     ensures waits { S.waiting space.new ≤ S.waiting space.old + 12 * length chunks.now }
     ensures cause { IfErr result (IsRefusal (Ungivable (S.image space.old)
-        (chunk_extents (parts_of chunks.now)) heap.old.now) (S.state space.old).faults
+        (chunk_extents (parts_of chunks.now)) heap.old.work.heap) (S.state space.old).faults
         (S.state space.new).faults) }
 {
     for i in 0..chunks.len() {
@@ -68,29 +66,28 @@ pub(crate) fn give_table<S: Space>(
     requires sound { S.is_sound space.old }
     requires near { IfSome table (λ place. place < 2 ^ 44) }
     requires few { count < 65536 }
-    requires heap { IsHeap heap.old.now }
-    requires threads { IfSome (S.image space.old)
-        (λ bytes. ThreadsFreeChunks bytes heap.old.now.gaps) }
+    requires heap { IsHeap heap.old.work.heap }
+    requires threads { IfSome (S.image space.old) (IsThreaded heap.old.work) }
     ensures sound { S.is_sound space.new }
-    ensures gives { OnOk result (heap.new.now ≡ give_all
-        (chunk_table_extents table count) heap.old.now) }
+    ensures gives { OnOk result (heap.new.work.heap ≡ give_all
+        (chunk_table_extents table count) heap.old.work.heap) }
     ensures kept { heap.new.kept ≡ heap.old.kept }
     ensures limit { heap.new.limit ≡ heap.old.limit }
-    ensures last { heap.new.now.end ≡ heap.old.now.end }
-    ensures heap { IsHeap heap.new.now }
-    ensures pairs { pairs heap.new.now.gaps ≤ pairs heap.old.now.gaps }
-    ensures threads { OnOk result (IfSome (S.image space.new)
-        (λ bytes. ThreadsFreeChunks bytes heap.new.now.gaps)) }
+    ensures last { heap.new.work.heap.end ≡ heap.old.work.heap.end }
+    ensures heap { IsHeap heap.new.work.heap }
+    ensures pairs { pairs heap.new.work.heap.gaps ≤ pairs heap.old.work.heap.gaps }
+    ensures threads { OnOk result (IfSome (S.image space.new) (IsThreaded heap.new.work)) }
     ensures bytes { Both (ChangesOnly (heap_fields ++ chunk_table_extents table count
-        ++ heap.old.now.gaps)) (S.image space.old) (S.image space.new) }
-    ensures end { OnOk result (Both (MovesEnd heap.old.now.end heap.new.now.end) (S.image space.old)
-        (S.image space.new)) }
-    ensures fillers { OnOk result (Both (KeepsFillers heap.old.now.gaps heap.new.now.gaps)
+        ++ heap.old.work.heap.gaps)) (S.image space.old) (S.image space.new) }
+    ensures end { OnOk result (Both (MovesEnd heap.old.work.heap.end heap.new.work.heap.end)
+        (S.image space.old) (S.image space.new)) }
+    ensures fillers { OnOk result (Both
+        (KeepsFillers heap.old.work.heap.gaps heap.new.work.heap.gaps)
         (S.image space.old) (S.image space.new)) }
     ensures effect { OnlyReads (S.state space.old) (S.state space.new) }
     ensures waits { S.waiting space.new ≤ S.waiting space.old + 12 }
     ensures cause { IfErr result (IsRefusal (Ungivable (S.image space.old)
-        (chunk_table_extents table count) heap.old.now) (S.state space.old).faults
+        (chunk_table_extents table count) heap.old.work.heap) (S.state space.old).faults
         (S.state space.new).faults) }
 {
     match table {
@@ -110,29 +107,28 @@ pub(crate) fn give_data<S: Space>(
     requires near { IfSome table (λ place. place < 2 ^ 44) }
     requires few { length chunks.now < 65536 }
     requires sane { All IsSane chunks.now }
-    requires heap { IsHeap heap.old.now }
-    requires threads { IfSome (S.image space.old)
-        (λ bytes. ThreadsFreeChunks bytes heap.old.now.gaps) }
+    requires heap { IsHeap heap.old.work.heap }
+    requires threads { IfSome (S.image space.old) (IsThreaded heap.old.work) }
     ensures sound { S.is_sound space.new }
-    ensures gives { OnOk result (heap.new.now ≡ give_all
-        (extents_in table (parts_of chunks.now)) heap.old.now) }
+    ensures gives { OnOk result (heap.new.work.heap ≡ give_all
+        (extents_in table (parts_of chunks.now)) heap.old.work.heap) }
     ensures kept { heap.new.kept ≡ heap.old.kept }
     ensures limit { heap.new.limit ≡ heap.old.limit }
-    ensures last { heap.new.now.end ≡ heap.old.now.end }
-    ensures heap { IsHeap heap.new.now }
-    ensures pairs { pairs heap.new.now.gaps ≤ pairs heap.old.now.gaps }
-    ensures threads { OnOk result (IfSome (S.image space.new)
-        (λ bytes. ThreadsFreeChunks bytes heap.new.now.gaps)) }
+    ensures last { heap.new.work.heap.end ≡ heap.old.work.heap.end }
+    ensures heap { IsHeap heap.new.work.heap }
+    ensures pairs { pairs heap.new.work.heap.gaps ≤ pairs heap.old.work.heap.gaps }
+    ensures threads { OnOk result (IfSome (S.image space.new) (IsThreaded heap.new.work)) }
     ensures bytes { Both (ChangesOnly (heap_fields ++ extents_in table (parts_of chunks.now)
-        ++ heap.old.now.gaps)) (S.image space.old) (S.image space.new) }
-    ensures end { OnOk result (Both (MovesEnd heap.old.now.end heap.new.now.end) (S.image space.old)
-        (S.image space.new)) }
-    ensures fillers { OnOk result (Both (KeepsFillers heap.old.now.gaps heap.new.now.gaps)
+        ++ heap.old.work.heap.gaps)) (S.image space.old) (S.image space.new) }
+    ensures end { OnOk result (Both (MovesEnd heap.old.work.heap.end heap.new.work.heap.end)
+        (S.image space.old) (S.image space.new)) }
+    ensures fillers { OnOk result (Both
+        (KeepsFillers heap.old.work.heap.gaps heap.new.work.heap.gaps)
         (S.image space.old) (S.image space.new)) }
     ensures effect { OnlyReads (S.state space.old) (S.state space.new) }
     ensures waits { S.waiting space.new ≤ S.waiting space.old + 12 * (length chunks.now + 1) }
     ensures cause { IfErr result (IsRefusal (Ungivable (S.image space.old)
-        (extents_in table (parts_of chunks.now)) heap.old.now) (S.state space.old).faults
+        (extents_in table (parts_of chunks.now)) heap.old.work.heap) (S.state space.old).faults
         (S.state space.new).faults) }
 {
     match give_table(heap, space, table, chunks.len() as u64) {

@@ -7,9 +7,8 @@ ghost use Rattle.cg_io.specs.Answers.{OnlyReads, IsUntold};
 ghost use Rattle.adf_format.specs.Placement.{Heap, chunk_table_extents};
 ghost use Rattle.adf_format.specs.Changes.{heap_fields};
 ghost use Rattle.adf_format.specs.HeapRule.{LimitReached, heap_take, give_all, payload_length, chunk_length_for, pairs};
-ghost use Rattle.adf_format.specs.LaysOut.{ThreadsFreeChunks};
 ghost use Rattle.adf_model.specs.declared.error.AdfError.{AdfError};
-ghost use Rattle.file_heap.specs.Heap.{IsHeap, ChangesOnly, MovesEnd, KeepsFillers, IsTakenWithin, TakesCover};
+ghost use Rattle.file_heap.specs.Heap.{IsHeap, IsThreaded, ChangesOnly, MovesEnd, KeepsFillers, IsTakenWithin, TakesCover};
 ghost use Rattle.adf_data.specs.Chunks.{part_of, parts_of, IsSane};
 ghost use Rattle.adf_data.specs.Sizes.{extents_in, Ungivable, IsGrowRefusal};
 ghost use Rattle.adf_format.specs.Parts.{chunk_table_length};
@@ -51,31 +50,32 @@ pub(crate) fn put_chunk<S: Space>(
     requires long { 21 ≤ n }
     requires fits { 20 + kept ≤ n }
     requires small { n ≤ 2 ^ 44 }
-    requires heap { IsHeap heap.old.now }
-    requires threads { IfSome (S.image space.old)
-        (λ bytes. ThreadsFreeChunks bytes heap.old.now.gaps) }
+    requires heap { IsHeap heap.old.work.heap }
+    requires threads { IfSome (S.image space.old) (IsThreaded heap.old.work) }
     ensures sound { S.is_sound space.new }
-    ensures takes { IfOk result (λ place. heap_take heap.old.limit n heap.old.now
-        ≡ Ok (place, heap.new.now)) }
+    ensures takes { IfOk result (λ place. heap_take heap.old.limit n heap.old.work.heap
+        ≡ Ok (place, heap.new.work.heap)) }
     ensures full { (asked end : ℕ) → result ≡ Err (AdfError.Full asked end)
-        → heap_take heap.old.limit n heap.old.now ≡ Err (record { asked = asked; end = end }) }
+        → heap_take heap.old.limit n heap.old.work.heap
+        ≡ Err (record { asked = asked; end = end }) }
     ensures kept { heap.new.kept ≡ heap.old.kept }
     ensures limit { heap.new.limit ≡ heap.old.limit }
-    ensures grows { heap.old.now.end ≤ heap.new.now.end }
-    ensures heap { IsHeap heap.new.now }
-    ensures within { IfOk result (IsTakenWithin n heap.new.now) }
-    ensures covers { IfOk result (TakesCover n heap.old.now heap.new.now) }
-    ensures pairs { pairs heap.new.now.gaps ≤ pairs heap.old.now.gaps }
+    ensures grows { heap.old.work.heap.end ≤ heap.new.work.heap.end }
+    ensures heap { IsHeap heap.new.work.heap }
+    ensures within { IfOk result (IsTakenWithin n heap.new.work.heap) }
+    ensures covers { IfOk result (TakesCover n heap.old.work.heap heap.new.work.heap) }
+    ensures pairs { pairs heap.new.work.heap.gaps ≤ pairs heap.old.work.heap.gaps }
     ensures puts { IfOk result (λ place.
-        Both (PutsChunk (parts_of chunks.now) kept n place heap.old.now heap.new.now)
+        Both (PutsChunk (parts_of chunks.now) kept n place heap.old.work.heap heap.new.work.heap)
         (S.image space.old) (S.image space.new)) }
-    ensures threads { OnOk result (IfSome (S.image space.new)
-        (λ bytes. ThreadsFreeChunks bytes heap.new.now.gaps)) }
-    ensures bytes { Both (ChangesOnly (room_of heap.old.now heap.new.now)) (S.image space.old)
+    ensures threads { OnOk result (IfSome (S.image space.new) (IsThreaded heap.new.work)) }
+    ensures bytes { Both (ChangesOnly (room_of heap.old.work.heap heap.new.work.heap))
+        (S.image space.old)
         (S.image space.new) }
-    ensures end { OnOk result (Both (MovesEnd heap.old.now.end heap.new.now.end) (S.image space.old)
-        (S.image space.new)) }
-    ensures fillers { OnOk result (Both (KeepsFillers heap.old.now.gaps heap.new.now.gaps)
+    ensures end { OnOk result (Both (MovesEnd heap.old.work.heap.end heap.new.work.heap.end)
+        (S.image space.old) (S.image space.new)) }
+    ensures fillers { OnOk result (Both
+        (KeepsFillers heap.old.work.heap.gaps heap.new.work.heap.gaps)
         (S.image space.old) (S.image space.new)) }
     ensures effect { OnlyReads (S.state space.old) (S.state space.new) }
     ensures cause { IfErr result (IsGrowRefusal (IsUntold (S.image space.old))
@@ -104,32 +104,32 @@ pub(crate) fn put_table<S: Space>(
     requires last { IsSane last }
     requires some { 1 ≤ length chunks.now }
     requires few { length chunks.now < 65535 }
-    requires heap { IsHeap heap.old.now }
-    requires threads { IfSome (S.image space.old)
-        (λ bytes. ThreadsFreeChunks bytes heap.old.now.gaps) }
+    requires heap { IsHeap heap.old.work.heap }
+    requires threads { IfSome (S.image space.old) (IsThreaded heap.old.work) }
     ensures sound { S.is_sound space.new }
     ensures takes { IfOk result (λ place. heap_take heap.old.limit
-        (44 + 24 * length chunks.now) heap.old.now ≡ Ok (place, heap.new.now)) }
+        (44 + 24 * length chunks.now) heap.old.work.heap ≡ Ok (place, heap.new.work.heap)) }
     ensures full { (asked end : ℕ) → result ≡ Err (AdfError.Full asked end)
-        → heap_take heap.old.limit (44 + 24 * length chunks.now) heap.old.now
+        → heap_take heap.old.limit (44 + 24 * length chunks.now) heap.old.work.heap
         ≡ Err (record { asked = asked; end = end }) }
     ensures kept { heap.new.kept ≡ heap.old.kept }
     ensures limit { heap.new.limit ≡ heap.old.limit }
-    ensures grows { heap.old.now.end ≤ heap.new.now.end }
-    ensures heap { IsHeap heap.new.now }
-    ensures within { IfOk result (IsTakenWithin (44 + 24 * length chunks.now) heap.new.now) }
+    ensures grows { heap.old.work.heap.end ≤ heap.new.work.heap.end }
+    ensures heap { IsHeap heap.new.work.heap }
+    ensures within { IfOk result (IsTakenWithin (44 + 24 * length chunks.now) heap.new.work.heap) }
     ensures covers { IfOk result (TakesCover (44
-        + 24 * length chunks.now) heap.old.now heap.new.now) }
-    ensures pairs { pairs heap.new.now.gaps ≤ pairs heap.old.now.gaps }
+        + 24 * length chunks.now) heap.old.work.heap heap.new.work.heap) }
+    ensures pairs { pairs heap.new.work.heap.gaps ≤ pairs heap.old.work.heap.gaps }
     ensures puts { IfOk result (λ place. IfSome (S.image space.new)
         (PutsTable (parts_of chunks.now ++ part_of last ∷ []) place)) }
-    ensures threads { OnOk result (IfSome (S.image space.new)
-        (λ bytes. ThreadsFreeChunks bytes heap.new.now.gaps)) }
-    ensures bytes { Both (ChangesOnly (room_of heap.old.now heap.new.now)) (S.image space.old)
+    ensures threads { OnOk result (IfSome (S.image space.new) (IsThreaded heap.new.work)) }
+    ensures bytes { Both (ChangesOnly (room_of heap.old.work.heap heap.new.work.heap))
+        (S.image space.old)
         (S.image space.new) }
-    ensures end { OnOk result (Both (MovesEnd heap.old.now.end heap.new.now.end) (S.image space.old)
-        (S.image space.new)) }
-    ensures fillers { OnOk result (Both (KeepsFillers heap.old.now.gaps heap.new.now.gaps)
+    ensures end { OnOk result (Both (MovesEnd heap.old.work.heap.end heap.new.work.heap.end)
+        (S.image space.old) (S.image space.new)) }
+    ensures fillers { OnOk result (Both
+        (KeepsFillers heap.old.work.heap.gaps heap.new.work.heap.gaps)
         (S.image space.old) (S.image space.new)) }
     ensures effect { OnlyReads (S.state space.old) (S.state space.new) }
     ensures cause { IfErr result (IsGrowRefusal (IsUntold (S.image space.old))
@@ -164,27 +164,27 @@ fn gather<S: Space>(
     requires sane { All IsSane chunks.now }
     requires was { old ≤ payload_length (parts_of chunks.now) }
     requires size { (old ≤ new) × (1 ≤ new) × (new ≤ 2 ^ 30) }
-    requires heap { IsHeap heap.old.now }
-    requires threads { IfSome (S.image space.old)
-        (λ bytes. ThreadsFreeChunks bytes heap.old.now.gaps) }
+    requires heap { IsHeap heap.old.work.heap }
+    requires threads { IfSome (S.image space.old) (IsThreaded heap.old.work) }
     ensures sound { S.is_sound space.new }
     ensures gathers { IfOk result (λ now. Both
-        (GathersData heap.old.limit table (parts_of chunks.now) old new now heap.old.now
-        heap.new.now) (S.image space.old) (S.image space.new)) }
+        (GathersData heap.old.limit table (parts_of chunks.now) old new now heap.old.work.heap
+        heap.new.work) (S.image space.old) (S.image space.new)) }
     ensures offset { IfOk result (λ now. HasOffset now.pointer) }
     ensures full { (asked end : ℕ) → result ≡ Err (AdfError.Full asked end)
-        → heap_take heap.old.limit (chunk_length_for new) heap.old.now
+        → heap_take heap.old.limit (chunk_length_for new) heap.old.work.heap
         ≡ Err (record { asked = asked; end = end }) }
     ensures kept { heap.new.kept ≡ heap.old.kept }
     ensures limit { heap.new.limit ≡ heap.old.limit }
-    ensures heap { IsHeap heap.new.now }
-    ensures pairs { pairs heap.new.now.gaps ≤ pairs heap.old.now.gaps }
+    ensures heap { IsHeap heap.new.work.heap }
+    ensures pairs { pairs heap.new.work.heap.gaps ≤ pairs heap.old.work.heap.gaps }
     ensures bytes { Both (ChangesOnly (changed_ranges
-        (extents_in table (parts_of chunks.now)) heap.old.now heap.new.now)) (S.image space.old)
+        (extents_in table (parts_of chunks.now)) heap.old.work.heap heap.new.work.heap))
+        (S.image space.old)
         (S.image space.new) }
     ensures effect { OnlyReads (S.state space.old) (S.state space.new) }
     ensures cause { IfErr result (IsGrowRefusal
-        (Ungivable (S.image space.old) (extents_in table (parts_of chunks.now)) heap.old.now)
+        (Ungivable (S.image space.old) (extents_in table (parts_of chunks.now)) heap.old.work.heap)
         (S.state space.old).faults (S.state space.new).faults) }
 {
     let place = match put_chunk(heap, space, chunks, old, chunk_length(new)) {
@@ -221,28 +221,28 @@ fn extend<S: Space>(
     requires have { have ≡ payload_length (parts_of chunks.now) }
     requires was { old ≤ have }
     requires added { (1 ≤ added) × (have + added ≤ 2 ^ 30) }
-    requires heap { IsHeap heap.old.now }
-    requires threads { IfSome (S.image space.old)
-        (λ bytes. ThreadsFreeChunks bytes heap.old.now.gaps) }
+    requires heap { IsHeap heap.old.work.heap }
+    requires threads { IfSome (S.image space.old) (IsThreaded heap.old.work) }
     ensures sound { S.is_sound space.new }
     ensures extends { IfOk result (λ now. Both
-        (ExtendsData heap.old.limit table (parts_of chunks.now) old added now heap.old.now
-        heap.new.now) (S.image space.old) (S.image space.new)) }
+        (ExtendsData heap.old.limit table (parts_of chunks.now) old added now heap.old.work.heap
+        heap.new.work) (S.image space.old) (S.image space.new)) }
     ensures offset { IfOk result (λ now. HasOffset now.pointer) }
     ensures full { (asked end : ℕ) → result ≡ Err (AdfError.Full asked end)
         → IsFullAt heap.old.limit (chunk_length_for added)
-        (chunk_table_length (length chunks.now + 1)) heap.old.now
+        (chunk_table_length (length chunks.now + 1)) heap.old.work.heap
         (record { asked = asked; end = end }) }
     ensures kept { heap.new.kept ≡ heap.old.kept }
     ensures limit { heap.new.limit ≡ heap.old.limit }
-    ensures heap { IsHeap heap.new.now }
-    ensures pairs { pairs heap.new.now.gaps ≤ pairs heap.old.now.gaps }
+    ensures heap { IsHeap heap.new.work.heap }
+    ensures pairs { pairs heap.new.work.heap.gaps ≤ pairs heap.old.work.heap.gaps }
     ensures bytes { Both (ChangesOnly (changed_ranges
-        (extents_in table (parts_of chunks.now)) heap.old.now heap.new.now)) (S.image space.old)
+        (extents_in table (parts_of chunks.now)) heap.old.work.heap heap.new.work.heap))
+        (S.image space.old)
         (S.image space.new) }
     ensures effect { OnlyReads (S.state space.old) (S.state space.new) }
     ensures cause { IfErr result (IsGrowRefusal
-        (Ungivable (S.image space.old) (extents_in table (parts_of chunks.now)) heap.old.now)
+        (Ungivable (S.image space.old) (extents_in table (parts_of chunks.now)) heap.old.work.heap)
         (S.state space.old).faults (S.state space.new).faults) }
 {
     let count = chunks.len() as u64;
@@ -296,30 +296,30 @@ pub(crate) fn grow<S: Space>(
     requires have { have ≡ payload_length (parts_of chunks.now) }
     requires was { old ≤ have }
     requires size { (have < new) × (new ≤ 2 ^ 30) }
-    requires heap { IsHeap heap.old.now }
-    requires threads { IfSome (S.image space.old)
-        (λ bytes. ThreadsFreeChunks bytes heap.old.now.gaps) }
+    requires heap { IsHeap heap.old.work.heap }
+    requires threads { IfSome (S.image space.old) (IsThreaded heap.old.work) }
     ensures sound { S.is_sound space.new }
     ensures grows { IfOk result (λ now.
-        Both (GrowsData heap.old.limit table (parts_of chunks.now) old new now heap.old.now
-        heap.new.now) (S.image space.old) (S.image space.new)) }
+        Both (GrowsData heap.old.limit table (parts_of chunks.now) old new now heap.old.work.heap
+        heap.new.work) (S.image space.old) (S.image space.new)) }
     ensures offset { IfOk result (λ now. HasOffset now.pointer) }
     ensures full { (asked end : ℕ) → result ≡ Err (AdfError.Full asked end)
-        → IsFullFor heap.old.limit table (parts_of chunks.now) new heap.old.now
+        → IsFullFor heap.old.limit table (parts_of chunks.now) new heap.old.work.heap
         (record { asked = asked; end = end }) }
     ensures room { (asked end : ℕ) → result ≡ Err (AdfError.Full asked end)
-        → heap.old.limit * 4096 < heap.old.now.end + 1 + chunk_length_for new
+        → heap.old.limit * 4096 < heap.old.work.heap.end + 1 + chunk_length_for new
         + room_of_table (length chunks.now) }
     ensures kept { heap.new.kept ≡ heap.old.kept }
     ensures limit { heap.new.limit ≡ heap.old.limit }
-    ensures heap { IsHeap heap.new.now }
-    ensures pairs { pairs heap.new.now.gaps ≤ pairs heap.old.now.gaps }
+    ensures heap { IsHeap heap.new.work.heap }
+    ensures pairs { pairs heap.new.work.heap.gaps ≤ pairs heap.old.work.heap.gaps }
     ensures bytes { Both (ChangesOnly (changed_ranges
-        (extents_in table (parts_of chunks.now)) heap.old.now heap.new.now)) (S.image space.old)
+        (extents_in table (parts_of chunks.now)) heap.old.work.heap heap.new.work.heap))
+        (S.image space.old)
         (S.image space.new) }
     ensures effect { OnlyReads (S.state space.old) (S.state space.new) }
     ensures cause { IfErr result (IsGrowRefusal
-        (Ungivable (S.image space.old) (extents_in table (parts_of chunks.now)) heap.old.now)
+        (Ungivable (S.image space.old) (extents_in table (parts_of chunks.now)) heap.old.work.heap)
         (S.state space.old).faults (S.state space.new).faults) }
 {
     if are_gathered(chunks.len()) {

@@ -5,10 +5,9 @@ ghost use Rattle.cg_io.specs.Blocks.{Both};
 ghost use Rattle.cg_io.specs.Answers.{OnlyReads, IsRefusal, IsUntold};
 ghost use Rattle.adf_format.specs.Changes.{heap_fields};
 ghost use Rattle.adf_format.specs.HeapRule.{LimitReached, heap_take, heap_give, pairs};
-ghost use Rattle.adf_format.specs.LaysOut.{ThreadsFreeChunks};
 ghost use Rattle.adf_model.specs.declared.error.AdfError.{AdfError};
 ghost use Rattle.file_heap.specs.Links.{range};
-ghost use Rattle.file_heap.specs.Heap.{IsHeap, MayGive, ChangesOnly, MovesEnd, KeepsFillers, IsTakenWithin, TakesCover};
+ghost use Rattle.file_heap.specs.Heap.{IsHeap, IsThreaded, MayGive, ChangesOnly, MovesEnd, KeepsFillers, IsTakenWithin, TakesCover};
 ghost use Rattle.adf_data.specs.Sizes.{IsGrowRefusal};
 
 use adf_model::AdfError;
@@ -16,32 +15,32 @@ use cg_io::Space;
 use file_heap::Heap;
 
 /// Takes n bytes: their place.
-#[tactic(auto, using(crate::proofs::HeapWords::looks_only, crate::proofs::HeapWords::takes_ok, crate::proofs::HeapWords::takes_full, crate::proofs::HeapWords::takes_none, crate::proofs::HeapWords::takes_grow))]
+#[tactic(auto, using(cg_io::proofs::ReadLaws::few_only, crate::proofs::HeapWords::takes_ok, crate::proofs::HeapWords::takes_full, crate::proofs::HeapWords::takes_none, crate::proofs::HeapWords::takes_grow))]
 pub(crate) fn take_range<S: Space>(heap: &mut Heap, space: &mut S, n: u64) -> Result<u64, AdfError>
     requires sound { S.is_sound space.old }
     requires some { (1 ≤ n) × (n ≤ 2 ^ 44) }
-    requires threads { IfSome (S.image space.old)
-        (λ bytes. ThreadsFreeChunks bytes heap.old.now.gaps) }
+    requires threads { IfSome (S.image space.old) (IsThreaded heap.old.work) }
     ensures sound { S.is_sound space.new }
-    ensures takes { IfOk result (λ place. heap_take heap.old.limit n heap.old.now
-        ≡ Ok (place, heap.new.now)) }
+    ensures takes { IfOk result (λ place. heap_take heap.old.limit n heap.old.work.heap
+        ≡ Ok (place, heap.new.work.heap)) }
     ensures full { (asked end : ℕ) → result ≡ Err (AdfError.Full asked end)
-        → heap_take heap.old.limit n heap.old.now ≡ Err (record { asked = asked; end = end }) }
-    ensures refused { OnErr result (heap.new.now ≡ heap.old.now) }
+        → heap_take heap.old.limit n heap.old.work.heap
+        ≡ Err (record { asked = asked; end = end }) }
+    ensures refused { OnErr result (heap.new.work.heap ≡ heap.old.work.heap) }
     ensures kept { heap.new.kept ≡ heap.old.kept }
     ensures limit { heap.new.limit ≡ heap.old.limit }
-    ensures grows { heap.old.now.end ≤ heap.new.now.end }
-    ensures heap { IsHeap heap.new.now }
-    ensures within { IfOk result (IsTakenWithin n heap.new.now) }
-    ensures covers { IfOk result (TakesCover n heap.old.now heap.new.now) }
-    ensures pairs { pairs heap.new.now.gaps ≤ pairs heap.old.now.gaps }
-    ensures threads { OnOk result (IfSome (S.image space.new)
-        (λ bytes. ThreadsFreeChunks bytes heap.new.now.gaps)) }
-    ensures bytes { Both (ChangesOnly (heap_fields ++ heap.old.now.gaps)) (S.image space.old)
+    ensures grows { heap.old.work.heap.end ≤ heap.new.work.heap.end }
+    ensures heap { IsHeap heap.new.work.heap }
+    ensures within { IfOk result (IsTakenWithin n heap.new.work.heap) }
+    ensures covers { IfOk result (TakesCover n heap.old.work.heap heap.new.work.heap) }
+    ensures pairs { pairs heap.new.work.heap.gaps ≤ pairs heap.old.work.heap.gaps }
+    ensures threads { OnOk result (IfSome (S.image space.new) (IsThreaded heap.new.work)) }
+    ensures bytes { Both (ChangesOnly (heap_fields ++ heap.old.work.heap.gaps)) (S.image space.old)
         (S.image space.new) }
-    ensures end { OnOk result (Both (MovesEnd heap.old.now.end heap.new.now.end) (S.image space.old)
-        (S.image space.new)) }
-    ensures fillers { OnOk result (Both (KeepsFillers heap.old.now.gaps heap.new.now.gaps)
+    ensures end { OnOk result (Both (MovesEnd heap.old.work.heap.end heap.new.work.heap.end)
+        (S.image space.old) (S.image space.new)) }
+    ensures fillers { OnOk result (Both
+        (KeepsFillers heap.old.work.heap.gaps heap.new.work.heap.gaps)
         (S.image space.old) (S.image space.new)) }
     ensures effect { OnlyReads (S.state space.old) (S.state space.new) }
     ensures waits { S.waiting space.new ≤ S.waiting space.old + 9 }
@@ -52,7 +51,7 @@ pub(crate) fn take_range<S: Space>(heap: &mut Heap, space: &mut S, n: u64) -> Re
 }
 
 /// Gives a range that was read from the bytes: where these are not told it may be none that can be given.
-#[tactic(auto, using(file_heap::proofs::ChangeLaws::changes_none, crate::proofs::HeapWords::looks_only))]
+#[tactic(auto, using(file_heap::proofs::ChangeLaws::changes_none, cg_io::proofs::ReadLaws::few_only))]
 pub(crate) fn give_range<S: Space>(
     heap: &mut Heap,
     space: &mut S,
@@ -62,28 +61,27 @@ pub(crate) fn give_range<S: Space>(
     requires sound { S.is_sound space.old }
     requires some { 1 ≤ n }
     requires near { place + n ≤ 2 ^ 45 }
-    requires heap { IsHeap heap.old.now }
-    requires threads { IfSome (S.image space.old)
-        (λ bytes. ThreadsFreeChunks bytes heap.old.now.gaps) }
+    requires heap { IsHeap heap.old.work.heap }
+    requires threads { IfSome (S.image space.old) (IsThreaded heap.old.work) }
     ensures sound { S.is_sound space.new }
-    ensures gives { OnOk result (heap.new.now ≡ heap_give place n heap.old.now) }
+    ensures gives { OnOk result (heap.new.work.heap ≡ heap_give place n heap.old.work.heap) }
     ensures kept { heap.new.kept ≡ heap.old.kept }
     ensures limit { heap.new.limit ≡ heap.old.limit }
-    ensures last { heap.new.now.end ≡ heap.old.now.end }
-    ensures heap { IsHeap heap.new.now }
-    ensures pairs { pairs heap.new.now.gaps ≤ pairs heap.old.now.gaps }
-    ensures threads { OnOk result (IfSome (S.image space.new)
-        (λ bytes. ThreadsFreeChunks bytes heap.new.now.gaps)) }
-    ensures bytes { Both (ChangesOnly (heap_fields ++ range place n ∷ heap.old.now.gaps))
+    ensures last { heap.new.work.heap.end ≡ heap.old.work.heap.end }
+    ensures heap { IsHeap heap.new.work.heap }
+    ensures pairs { pairs heap.new.work.heap.gaps ≤ pairs heap.old.work.heap.gaps }
+    ensures threads { OnOk result (IfSome (S.image space.new) (IsThreaded heap.new.work)) }
+    ensures bytes { Both (ChangesOnly (heap_fields ++ range place n ∷ heap.old.work.heap.gaps))
         (S.image space.old) (S.image space.new) }
-    ensures end { OnOk result (Both (MovesEnd heap.old.now.end heap.new.now.end) (S.image space.old)
-        (S.image space.new)) }
-    ensures fillers { OnOk result (Both (KeepsFillers heap.old.now.gaps heap.new.now.gaps)
+    ensures end { OnOk result (Both (MovesEnd heap.old.work.heap.end heap.new.work.heap.end)
+        (S.image space.old) (S.image space.new)) }
+    ensures fillers { OnOk result (Both
+        (KeepsFillers heap.old.work.heap.gaps heap.new.work.heap.gaps)
         (S.image space.old) (S.image space.new)) }
     ensures effect { OnlyReads (S.state space.old) (S.state space.new) }
     ensures waits { S.waiting space.new ≤ S.waiting space.old + 12 }
     ensures cause { IfErr result (IsRefusal (IsUntold (S.image space.old)
-        ⊎ (MayGive place n heap.old.now → ⊥)) (S.state space.old).faults
+        ⊎ (MayGive place n heap.old.work.heap → ⊥)) (S.state space.old).faults
         (S.state space.new).faults) }
 {
     if !heap.may_give(place, n) {

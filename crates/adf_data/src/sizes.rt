@@ -7,10 +7,9 @@ ghost use Rattle.cg_io.specs.Answers.{OnlyReads, IsRefusal};
 ghost use Rattle.adf_format.specs.Placement.{NodeParts};
 ghost use Rattle.adf_format.specs.Changes.{heap_fields};
 ghost use Rattle.adf_format.specs.HeapRule.{LimitReached, give_all, data_extents, payload_length, chunk_length_for, pairs};
-ghost use Rattle.adf_format.specs.LaysOut.{ThreadsFreeChunks};
 ghost use Rattle.disk_ptr.specs.View.{HasOffset};
 ghost use Rattle.disk_ptr.specs.declared.DiskPtr.{DiskPtr};
-ghost use Rattle.file_heap.specs.Heap.{IsHeap, ChangesOnly, MovesEnd, KeepsFillers};
+ghost use Rattle.file_heap.specs.Heap.{IsHeap, IsThreaded, ChangesOnly, MovesEnd, KeepsFillers};
 ghost use Rattle.adf_model.specs.declared.error.AdfError.{AdfError};
 ghost use Rattle.adf_model.specs.NodeData.{resized_spot};
 ghost use Rattle.adf_data.specs.Chunks.{parts_of, IsSane, Named};
@@ -39,31 +38,31 @@ pub fn release<S: Space>(
 ) -> Result<(), AdfError>
     requires sound { S.is_sound space.old }
     requires offset { HasOffset at.old.pointer }
-    requires heap { IsHeap heap.old.now }
-    requires threads { IfSome (S.image space.old)
-        (λ bytes. ThreadsFreeChunks bytes heap.old.now.gaps) }
+    requires heap { IsHeap heap.old.work.heap }
+    requires threads { IfSome (S.image space.old) (IsThreaded heap.old.work) }
     ensures sound { S.is_sound space.new }
     ensures gone { OnOk result (at.new ≡ record { count = 0; pointer = DiskPtr.Blank }) }
     ensures stays { OnErr result (at.new ≡ at.old) }
     ensures gives { OnOk result ((parts : NodeParts) → Named at.old parts (S.image space.old)
-        → heap.new.now ≡ give_all (data_extents parts) heap.old.now) }
+        → heap.new.work.heap ≡ give_all (data_extents parts) heap.old.work.heap) }
     ensures kept { heap.new.kept ≡ heap.old.kept }
     ensures limit { heap.new.limit ≡ heap.old.limit }
-    ensures heap { IsHeap heap.new.now }
-    ensures pairs { pairs heap.new.now.gaps ≤ pairs heap.old.now.gaps }
-    ensures threads { OnOk result (IfSome (S.image space.new)
-        (λ bytes. ThreadsFreeChunks bytes heap.new.now.gaps)) }
+    ensures heap { IsHeap heap.new.work.heap }
+    ensures pairs { pairs heap.new.work.heap.gaps ≤ pairs heap.old.work.heap.gaps }
+    ensures threads { OnOk result (IfSome (S.image space.new) (IsThreaded heap.new.work)) }
     ensures bytes { (parts : NodeParts) → Named at.old parts (S.image space.old)
-        → Both (ChangesOnly (heap_fields ++ data_extents parts ++ heap.old.now.gaps))
+        → Both (ChangesOnly (heap_fields ++ data_extents parts ++ heap.old.work.heap.gaps))
         (S.image space.old) (S.image space.new) }
-    ensures end { OnOk result (Both (MovesEnd heap.old.now.end heap.new.now.end) (S.image space.old)
-        (S.image space.new)) }
-    ensures fillers { OnOk result (Both (KeepsFillers heap.old.now.gaps heap.new.now.gaps)
+    ensures end { OnOk result (Both (MovesEnd heap.old.work.heap.end heap.new.work.heap.end)
+        (S.image space.old) (S.image space.new)) }
+    ensures fillers { OnOk result (Both
+        (KeepsFillers heap.old.work.heap.gaps heap.new.work.heap.gaps)
         (S.image space.old) (S.image space.new)) }
     ensures effect { OnlyReads (S.state space.old) (S.state space.new) }
     ensures waits { S.waiting space.new ≤ S.waiting space.old + 12 * (at.old.count + 1) }
     ensures cause { IfErr result (IsRefusal ((parts : NodeParts)
-        → Named at.old parts (S.image space.old) → MayGiveAll (data_extents parts) heap.old.now
+        → Named at.old parts (S.image space.old)
+        → MayGiveAll (data_extents parts) heap.old.work.heap
         → ⊥) (S.state space.old).faults (S.state space.new).faults) }
 {
     let place = *at;
@@ -118,33 +117,33 @@ pub fn resize<S: Space>(
     requires offset { HasOffset at.old.pointer }
     requires was { old ≤ 2 ^ 30 }
     requires size { (1 ≤ new) × (new ≤ 2 ^ 30) }
-    requires heap { IsHeap heap.old.now }
-    requires threads { IfSome (S.image space.old)
-        (λ bytes. ThreadsFreeChunks bytes heap.old.now.gaps) }
+    requires heap { IsHeap heap.old.work.heap }
+    requires threads { IfSome (S.image space.old) (IsThreaded heap.old.work) }
     ensures sound { S.is_sound space.new }
     ensures resized { OnOk result (Both
-        (ResizesData heap.old.limit old new at.old at.new heap.old.now heap.new.now)
+        (ResizesData heap.old.limit old new at.old at.new heap.old.work.heap heap.new.work)
         (S.image space.old) (S.image space.new)) }
     ensures offset { HasOffset at.new.pointer }
     ensures stays { OnErr result (at.new ≡ at.old) }
     ensures kept { heap.new.kept ≡ heap.old.kept }
     ensures limit { heap.new.limit ≡ heap.old.limit }
-    ensures heap { IsHeap heap.new.now }
-    ensures pairs { pairs heap.new.now.gaps ≤ pairs heap.old.now.gaps }
+    ensures heap { IsHeap heap.new.work.heap }
+    ensures pairs { pairs heap.new.work.heap.gaps ≤ pairs heap.old.work.heap.gaps }
     ensures bytes { (parts : NodeParts) → Named at.old parts (S.image space.old)
-        → Both (ChangesOnly (sized_ranges parts heap.old.now heap.new.now)) (S.image space.old)
+        → Both (ChangesOnly (sized_ranges parts heap.old.work.heap heap.new.work.heap))
+        (S.image space.old)
         (S.image space.new) }
     ensures full { (asked end : ℕ) → result ≡ Err (AdfError.Full asked end)
-        → heap.old.limit * 4096 < heap.old.now.end + 1 + chunk_length_for new
+        → heap.old.limit * 4096 < heap.old.work.heap.end + 1 + chunk_length_for new
         + room_of_table at.old.count }
     ensures exact { (asked end : ℕ) → result ≡ Err (AdfError.Full asked end)
         → (parts : NodeParts) (bytes : Option (List ℕ))
-        → Owns at.old old parts bytes heap.old.now (S.image space.old)
-        → resized_spot heap.old.limit new (parts, heap.old.now)
+        → Owns at.old old parts bytes heap.old.work.heap (S.image space.old)
+        → resized_spot heap.old.limit new (parts, heap.old.work.heap)
         ≡ Err (record { asked = asked; end = end }) }
     ensures effect { OnlyReads (S.state space.old) (S.state space.new) }
     ensures cause { IfErr result (IsGrowRefusal ((parts : NodeParts) (bytes : Option (List ℕ))
-        → Owns at.old old parts bytes heap.old.now (S.image space.old)
+        → Owns at.old old parts bytes heap.old.work.heap (S.image space.old)
         → ⊥) (S.state space.old).faults (S.state space.new).faults) }
 {
     let place = *at;

@@ -3,6 +3,8 @@ use crate::spaces::Bytes;
 use crate::steps::{Step, new_heap, run};
 use adf_data::DataPlace;
 use adf_model::AdfError;
+use std::alloc::Global;
+use std::process::Abort;
 use std::test::Fail;
 
 /// Each kind of call: all ways to grow but gathering, a write, a read and a release.
@@ -23,15 +25,20 @@ const CALLS: [Step; 6] = [
     Step::Release,
 ];
 
+// Makes a heap and all calls, up to the first that is refused.
+fn run_all(rt: &impl Abort, alloc: Global, space: &mut Bytes) -> Result<(), AdfError> {
+    let mut heap = new_heap(alloc, space, 1129, 1)?;
+    let mut at = DataPlace::none();
+    run(rt, alloc, &mut heap, space, &mut at, &CALLS)
+}
+
 // Each call of the space in turn fails: the answer is that fault.
 #[test]
 fn each_call_of_the_space_may_fail(rt: HostRuntime) -> Result<(), Fail> {
     for k in 1..400 {
         let mut space = Bytes::new(rt.alloc(), 4096)?;
         space.failing = k;
-        let mut heap = new_heap(rt.alloc(), &mut space, 1129, 1)?;
-        let mut at = DataPlace::none();
-        match run(&rt, rt.alloc(), &mut heap, &mut space, &mut at, &CALLS) {
+        match run_all(&rt, rt.alloc(), &mut space) {
             Ok(()) => {
                 assert!(rt; space.calls < k);
                 return Ok(());

@@ -8,7 +8,7 @@ ghost use Rattle.file_heap.specs.Heap.{IsHeap};
 ghost use Rattle.adf_data.specs.Runs.{EndsIn, run_bytes};
 
 use crate::spaces::Bytes;
-use adf_chunks::{ExtentKind, Extents};
+use adf_chunks::{Extent, ExtentKind, Extents};
 use adf_data::{DataPlace, read_runs, release, resize, write_runs};
 use adf_model::{AdfError, Listing, Run, Runs};
 use disk_ptr::{DiskPtr, encode, from_place, place};
@@ -78,7 +78,7 @@ const NOT_CALLED: AdfError = AdfError::NotFound;
 
 /// The heap of a file with no gap, and this last byte.
 pub fn new_heap(alloc: Global, space: &mut Bytes, end: u64, limit: u64) -> Result<Heap, AdfError>
-    ensures { IfOk result (λ heap. IsHeap heap.now) }
+    ensures { IfOk result (λ heap. IsHeap heap.work.heap) }
 {
     if end < 265 || end >= 1 << 24 || limit == 0 || limit > 1 << 20 {
         return Err(NOT_CALLED);
@@ -184,9 +184,9 @@ fn resizes(
     old: u64,
     new: u64,
 ) -> Result<(), AdfError>
-    requires heap { IsHeap heap.old.now }
+    requires heap { IsHeap heap.old.work.heap }
     requires offset { HasOffset at.old.pointer }
-    ensures heap { IsHeap heap.new.now }
+    ensures heap { IsHeap heap.new.work.heap }
     ensures offset { HasOffset at.new.pointer }
 {
     if old > 1 << 30 || new == 0 || new > 1 << 30 {
@@ -201,9 +201,9 @@ fn releases(
     space: &mut Bytes,
     at: &mut DataPlace,
 ) -> Result<(), AdfError>
-    requires heap { IsHeap heap.old.now }
+    requires heap { IsHeap heap.old.work.heap }
     requires offset { HasOffset at.old.pointer }
-    ensures heap { IsHeap heap.new.now }
+    ensures heap { IsHeap heap.new.work.heap }
     ensures offset { HasOffset at.new.pointer }
 {
     release(alloc, heap, space, at)
@@ -226,9 +226,9 @@ fn make(
     at: &mut DataPlace,
     step: Step,
 ) -> Result<bool, AdfError>
-    requires heap { IsHeap heap.old.now }
+    requires heap { IsHeap heap.old.work.heap }
     requires offset { HasOffset at.old.pointer }
-    ensures heap { IsHeap heap.new.now }
+    ensures heap { IsHeap heap.new.work.heap }
     ensures offset { HasOffset at.new.pointer }
 {
     match step {
@@ -277,8 +277,8 @@ fn is_long(space: &Bytes, at: &DataPlace, length: u64) -> bool {
     space.holds(start + 4, &encode(from_place(start + length - 4)))
 }
 
-fn has_gaps(heap: &Heap, wanted: &[(u64, u64, ExtentKind)]) -> bool {
-    let gaps = heap.gaps();
+// Whether gaps are these, in this order.
+fn are_these(gaps: &[Extent], wanted: &[(u64, u64, ExtentKind)]) -> bool {
     if gaps.len() != wanted.len() {
         return false;
     }
@@ -290,8 +290,15 @@ fn has_gaps(heap: &Heap, wanted: &[(u64, u64, ExtentKind)]) -> bool {
     true
 }
 
+fn has_gaps(alloc: Global, heap: &Heap, wanted: &[(u64, u64, ExtentKind)]) -> bool {
+    match heap.gaps(alloc) {
+        Ok(gaps) => are_these(gaps.items(), wanted),
+        Err(_) => false,
+    }
+}
+
 // Whether what is expected is so.
-fn is_so(heap: &Heap, space: &Bytes, at: &DataPlace, step: Step) -> bool {
+fn is_so(alloc: Global, heap: &Heap, space: &Bytes, at: &DataPlace, step: Step) -> bool {
     match step {
         Step::One { place } => is_at(at, 1, place),
         Step::Many { count, table } => is_at(at, count, table),
@@ -299,7 +306,7 @@ fn is_so(heap: &Heap, space: &Bytes, at: &DataPlace, step: Step) -> bool {
         Step::Length { is } => is_long(space, at, is),
         Step::None => at.count == 0 && at.pointer == DiskPtr::Blank,
         Step::Bytes { at, are } => space.holds(at, are),
-        Step::Gaps { are } => has_gaps(heap, are),
+        Step::Gaps { are } => has_gaps(alloc, heap, are),
         Step::End { is } => heap.end() == is,
         _ => true,
     }
@@ -314,9 +321,9 @@ pub fn run(
     at: &mut DataPlace,
     steps: &[Step],
 ) -> Result<(), AdfError>
-    requires heap { IsHeap heap.old.now }
+    requires heap { IsHeap heap.old.work.heap }
     requires offset { HasOffset at.old.pointer }
-    ensures heap { IsHeap heap.new.now }
+    ensures heap { IsHeap heap.new.work.heap }
     ensures offset { HasOffset at.new.pointer }
 {
     match steps {
@@ -325,7 +332,7 @@ pub fn run(
             let made = make(alloc, heap, space, at, *step)?;
             assert!(rt; made, "{} steps from the end", rest.len());
             assert!(rt;
-                is_so(heap, space, at, *step),
+                is_so(alloc, heap, space, at, *step),
                 "{} steps from the end",
                 rest.len()
             );

@@ -12,14 +12,14 @@ use Rattle.adf_data.proofs.gifts.give_chunks.Goals as goal
 
 pub returns-in-Err-clause-bytes : goal.returns-in-Err-clause-bytes
 returns-in-Err-clause-bytes g c =
-    bytes_more c.args.chunks.now c.loop-i.i c.chunk_of-chunk.result c.args.heap.now.now c.loop-i.heap.now (g.S.ReadBytes.image c.args.space.now) (g.S.ReadBytes.image c.loop-i.space) (g.S.ReadBytes.image c.give_range.new.space) c.loop-i-test.true c.chunk_of-chunk.ensures.part c.loop-i.invariant.covers
+    bytes_more c.args.chunks.now c.loop-i.i c.chunk_of-chunk.result c.args.heap.now.work.heap c.loop-i.heap.work.heap (g.S.ReadBytes.image c.args.space.now) (g.S.ReadBytes.image c.loop-i.space) (g.S.ReadBytes.image c.give_range.new.space) c.loop-i-test.true c.chunk_of-chunk.ensures.part c.loop-i.invariant.covers
     c.loop-i.invariant.bytes c.give_range.ensures.bytes
 
 pub returns-in-Err-clause-cause : goal.returns-in-Err-clause-cause
 returns-in-Err-clause-cause g c =
-    refused_later (IsUntold (g.S.ReadBytes.image c.loop-i.space) ⊎ (MayGive c.chunk_of-chunk.result.place c.chunk_of-chunk.result.length c.loop-i.heap.now → ⊥)) (Ungivable (g.S.ReadBytes.image c.args.space.now) (chunk_extents (parts_of c.args.chunks.now)) c.args.heap.now.now)
+    refused_later (IsUntold (g.S.ReadBytes.image c.loop-i.space) ⊎ (MayGive c.chunk_of-chunk.result.place c.chunk_of-chunk.result.length c.loop-i.heap.work.heap → ⊥)) (Ungivable (g.S.ReadBytes.image c.args.space.now) (chunk_extents (parts_of c.args.chunks.now)) c.args.heap.now.work.heap)
     (g.S.ReadBytes.state c.args.space.now).faults (g.S.ReadBytes.state c.loop-i.space).faults (g.S.ReadBytes.state c.give_range.new.space).faults c.in-Err.error c.loop-i.invariant.looks.faults
-    (refusal_more c.args.chunks.now c.loop-i.i c.chunk_of-chunk.result c.args.heap.now.now c.loop-i.heap.now (g.S.ReadBytes.image c.args.space.now) (g.S.ReadBytes.image c.loop-i.space) (heap_fields ++ chunk_extents (parts_of c.args.chunks.now) ++ c.args.heap.now.now.gaps)
+    (refusal_more c.args.chunks.now c.loop-i.i c.chunk_of-chunk.result c.args.heap.now.work.heap c.loop-i.heap.work.heap (g.S.ReadBytes.image c.args.space.now) (g.S.ReadBytes.image c.loop-i.space) (heap_fields ++ chunk_extents (parts_of c.args.chunks.now) ++ c.args.heap.now.work.heap.gaps)
     c.loop-i-test.true c.chunk_of-chunk.ensures.part c.loop-i.invariant.end c.loop-i.invariant.covers c.loop-i.invariant.bytes)
     c.in-Err.ensures.cause
 
@@ -33,11 +33,11 @@ loop-i-preserved g c = record {
   heap = c.give_range.ensures.heap;
   pairs = (let p = c.loop-i.invariant.pairs in let q = c.give_range.ensures.pairs in omega (arith, p, q));
   threads = c.in-Ok.ensures.threads;
-  gives = gives_more c.args.chunks.now c.loop-i.i c.chunk_of-chunk.result _ c.loop-i.heap.now c.give_range.new.heap.now c.loop-i-test.true c.chunk_of-chunk.ensures.part c.loop-i.invariant.gives c.in-Ok.ensures.gives;
+  gives = gives_more c.args.chunks.now c.loop-i.i c.chunk_of-chunk.result _ c.loop-i.heap.work.heap c.give_range.new.heap.work.heap c.loop-i-test.true c.chunk_of-chunk.ensures.part c.loop-i.invariant.gives c.in-Ok.ensures.gives;
   end = ap (λ (h : Heap). h.end) c.in-Ok.ensures.gives ∙ c.loop-i.invariant.end;
-  covers = covers_more c.args.chunks.now c.loop-i.i c.chunk_of-chunk.result c.args.heap.now.now c.loop-i.heap.now c.give_range.new.heap.now c.loop-i-test.true c.chunk_of-chunk.ensures.part c.loop-i.invariant.covers c.in-Ok.ensures.gives;
-  bytes = bytes_more c.args.chunks.now c.loop-i.i c.chunk_of-chunk.result c.args.heap.now.now c.loop-i.heap.now (g.S.ReadBytes.image c.args.space.now) (g.S.ReadBytes.image c.loop-i.space) (g.S.ReadBytes.image c.give_range.new.space) c.loop-i-test.true c.chunk_of-chunk.ensures.part c.loop-i.invariant.covers
+  covers = covers_more c.args.chunks.now c.loop-i.i c.chunk_of-chunk.result c.args.heap.now.work.heap c.loop-i.heap.work.heap c.give_range.new.heap.work.heap c.loop-i-test.true c.chunk_of-chunk.ensures.part c.loop-i.invariant.covers c.in-Ok.ensures.gives;
+  bytes = bytes_more c.args.chunks.now c.loop-i.i c.chunk_of-chunk.result c.args.heap.now.work.heap c.loop-i.heap.work.heap (g.S.ReadBytes.image c.args.space.now) (g.S.ReadBytes.image c.loop-i.space) (g.S.ReadBytes.image c.give_range.new.space) c.loop-i-test.true c.chunk_of-chunk.ensures.part c.loop-i.invariant.covers
       c.loop-i.invariant.bytes c.give_range.ensures.bytes;
-  moves = end_then c.args.heap.now.now.end c.loop-i.heap.now.end c.give_range.new.heap.now.end (g.S.ReadBytes.image c.args.space.now) (g.S.ReadBytes.image c.loop-i.space) (g.S.ReadBytes.image c.give_range.new.space) c.loop-i.invariant.moves c.in-Ok.ensures.end;
-  fillers = fillers_then c.args.heap.now.now.gaps c.loop-i.heap.now.gaps c.give_range.new.heap.now.gaps (g.S.ReadBytes.image c.args.space.now) (g.S.ReadBytes.image c.loop-i.space) (g.S.ReadBytes.image c.give_range.new.space) c.loop-i.invariant.fillers c.in-Ok.ensures.fillers;
+  moves = end_then c.args.heap.now.work.heap.end c.loop-i.heap.work.heap.end c.give_range.new.heap.work.heap.end (g.S.ReadBytes.image c.args.space.now) (g.S.ReadBytes.image c.loop-i.space) (g.S.ReadBytes.image c.give_range.new.space) c.loop-i.invariant.moves c.in-Ok.ensures.end;
+  fillers = fillers_then c.args.heap.now.work.heap.gaps c.loop-i.heap.work.heap.gaps c.give_range.new.heap.work.heap.gaps (g.S.ReadBytes.image c.args.space.now) (g.S.ReadBytes.image c.loop-i.space) (g.S.ReadBytes.image c.give_range.new.space) c.loop-i.invariant.fillers c.in-Ok.ensures.fillers;
 }

@@ -6,8 +6,7 @@ use Rattle.adf_format.specs.Tiles.{cover}
 use Rattle.adf_format.specs.Placement.{chunk_extents}
 use Rattle.adf_format.specs.Changes.{heap_fields}
 use Rattle.adf_format.specs.HeapRule.{give_all, pairs}
-use Rattle.adf_format.specs.LaysOut.{ThreadsFreeChunks}
-use Rattle.file_heap.specs.Heap.{IsHeap, ChangesOnly, MovesEnd, KeepsFillers}
+use Rattle.file_heap.specs.Heap.{IsHeap, IsThreaded, ChangesOnly, MovesEnd, KeepsFillers}
 use Rattle.adf_data.specs.Chunks.{parts_of}
 use Rattle.adf_data.proofs.gifts.give_chunks.Given as goal
 
@@ -18,13 +17,13 @@ invariant-loop-i g l = record {
   waits : g.S.ReadBytes.waiting l.space ≤ g.S.ReadBytes.waiting l.fn.space + 12 * l.i;
   kept : l.heap.kept ≡ l.fn.heap.kept;
   limit : l.heap.limit ≡ l.fn.heap.limit;
-  heap : IsHeap l.heap.now;
-  pairs : pairs l.heap.now.gaps ≤ pairs l.fn.heap.now.gaps;
-  threads : IfSome (g.S.ReadBytes.image l.space) (λ bytes. ThreadsFreeChunks bytes l.heap.now.gaps);
-  gives : give_all (drop l.i (chunk_extents (parts_of l.chunks))) l.heap.now ≡ give_all (chunk_extents (parts_of l.chunks)) l.fn.heap.now;
-  end : l.heap.now.end ≡ l.fn.heap.now.end;
-  covers : (b : ℕ) → cover l.heap.now.gaps b ≡ cover (take l.i (chunk_extents (parts_of l.chunks))) b + cover l.fn.heap.now.gaps b;
-  bytes : Both (ChangesOnly (heap_fields ++ chunk_extents (parts_of l.chunks) ++ l.fn.heap.now.gaps)) (g.S.ReadBytes.image l.fn.space) (g.S.ReadBytes.image l.space);
-  moves : Both (MovesEnd l.fn.heap.now.end l.heap.now.end) (g.S.ReadBytes.image l.fn.space) (g.S.ReadBytes.image l.space);
-  fillers : Both (KeepsFillers l.fn.heap.now.gaps l.heap.now.gaps) (g.S.ReadBytes.image l.fn.space) (g.S.ReadBytes.image l.space);
+  heap : IsHeap l.heap.work.heap;
+  pairs : pairs l.heap.work.heap.gaps ≤ pairs l.fn.heap.work.heap.gaps;
+  threads : IfSome (g.S.ReadBytes.image l.space) (IsThreaded l.heap.work);
+  gives : give_all (drop l.i (chunk_extents (parts_of l.chunks))) l.heap.work.heap ≡ give_all (chunk_extents (parts_of l.chunks)) l.fn.heap.work.heap;
+  end : l.heap.work.heap.end ≡ l.fn.heap.work.heap.end;
+  covers : (b : ℕ) → cover l.heap.work.heap.gaps b ≡ cover (take l.i (chunk_extents (parts_of l.chunks))) b + cover l.fn.heap.work.heap.gaps b;
+  bytes : Both (ChangesOnly (heap_fields ++ chunk_extents (parts_of l.chunks) ++ l.fn.heap.work.heap.gaps)) (g.S.ReadBytes.image l.fn.space) (g.S.ReadBytes.image l.space);
+  moves : Both (MovesEnd l.fn.heap.work.heap.end l.heap.work.heap.end) (g.S.ReadBytes.image l.fn.space) (g.S.ReadBytes.image l.space);
+  fillers : Both (KeepsFillers l.fn.heap.work.heap.gaps l.heap.work.heap.gaps) (g.S.ReadBytes.image l.fn.space) (g.S.ReadBytes.image l.space);
 }

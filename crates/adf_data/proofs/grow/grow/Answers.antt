@@ -7,11 +7,11 @@ use Rattle.adf_data.proofs.grow.grow.Goals as goal
 pub returns-in-Ok-clause-grows : goal.returns-in-Ok-clause-grows
 returns-in-Ok-clause-grows g c =
     let h = c.requires.have in let w = c.requires.was in let s = c.requires.size.0 in
-    all_gathers_grow c.args.heap.now.limit c.args.table (parts_of c.args.chunks.now) c.args.old c.args.new c.in-Ok.now c.args.heap.now.now c.gather.new.heap.now (g.S.ReadBytes.image c.args.space.now) (g.S.ReadBytes.image c.gather.new.space) (omega (arith, h, w)) (omega (arith, h, s))
+    all_gathers_grow c.args.heap.now.limit c.args.table (parts_of c.args.chunks.now) c.args.old c.args.new c.in-Ok.now c.args.heap.now.work.heap c.gather.new.heap.work (g.S.ReadBytes.image c.args.space.now) (g.S.ReadBytes.image c.gather.new.space) (omega (arith, h, w)) (omega (arith, h, s))
     (subst (λ (n : ℕ). (n ≡ 0) ⊎ (64 ≤ n)) (sym (length-map c.args.chunks.now part_of)) (c.are_gathered.ensures.gathered c.if-are_gathered.true)) c.in-Ok.ensures.gathers
 
 pub returns-in-Ok-extend-clause-grows : goal.returns-in-Ok-extend-clause-grows
 returns-in-Ok-extend-clause-grows g c =
     let h = c.requires.have in let w = c.requires.was in let s = c.requires.size.0 in let l = length-map c.args.chunks.now part_of in let m = c.are_gathered.ensures.not c.if-are_gathered.false in
-    all_extends_grow c.args.heap.now.limit c.args.table (parts_of c.args.chunks.now) c.args.old (c.args.new - c.args.have) c.args.new c.in-Ok-extend.now c.args.heap.now.now c.extend.new.heap.now (g.S.ReadBytes.image c.args.space.now) (g.S.ReadBytes.image c.extend.new.space) (omega (arith, h, w)) (omega (arith, h, s))
+    all_extends_grow c.args.heap.now.limit c.args.table (parts_of c.args.chunks.now) c.args.old (c.args.new - c.args.have) c.args.new c.in-Ok-extend.now c.args.heap.now.work.heap c.extend.new.heap.work (g.S.ReadBytes.image c.args.space.now) (g.S.ReadBytes.image c.extend.new.space) (omega (arith, h, w)) (omega (arith, h, s))
     (let a = m.0 in omega (arith, l, a)) (let b = m.1 in omega (arith, l, b)) (ap (λ k. c.args.new - k) h) c.in-Ok-extend.ensures.extends

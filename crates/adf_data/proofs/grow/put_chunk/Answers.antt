@@ -5,36 +5,36 @@ use Rattle.adf_data.proofs.GrowLaws.{all_put}
 use Rattle.adf_data.proofs.grow.put_chunk.Goals as goal
 
 pub returns-in-Err-clause-bytes : goal.returns-in-Err-clause-bytes
-returns-in-Err-clause-bytes g c = taken_in_room c.args.heap.now.now c.take_range.new.heap.now (g.S.ReadBytes.image c.args.space.now) (g.S.ReadBytes.image c.take_range.new.space) c.take_range.ensures.bytes
+returns-in-Err-clause-bytes g c = taken_in_room c.args.heap.now.work.heap c.take_range.new.heap.work.heap (g.S.ReadBytes.image c.args.space.now) (g.S.ReadBytes.image c.take_range.new.space) c.take_range.ensures.bytes
 
 pub returns-in-Ok-write_chunk-clause-puts : goal.returns-in-Ok-write_chunk-clause-puts
 returns-in-Ok-write_chunk-clause-puts g c =
-    all_put (parts_of c.args.chunks.now) c.args.kept c.args.n c.in-Ok.place c.args.heap.now.now c.take_range.new.heap.now c.requires.heap c.in-Ok.ensures.covers c.in-Ok.ensures.within
+    all_put (parts_of c.args.chunks.now) c.args.kept c.args.n c.in-Ok.place c.args.heap.now.work.heap c.take_range.new.heap.work.heap c.requires.heap c.in-Ok.ensures.covers c.in-Ok.ensures.within
     (g.S.ReadBytes.image c.args.space.now) (g.S.ReadBytes.image c.take_range.new.space) (g.S.ReadBytes.image c.write_chunk.new.space) c.take_range.ensures.bytes c.in-Ok-write_chunk.ensures.made
 
 pub returns-in-Ok-write_chunk-clause-threads : goal.returns-in-Ok-write_chunk-clause-threads
 returns-in-Ok-write_chunk-clause-threads g c =
-    threads_stay c.args.n c.in-Ok.place c.args.heap.now.now c.take_range.new.heap.now c.requires.heap c.in-Ok.ensures.covers c.in-Ok.ensures.within
+    threads_stay c.args.n c.in-Ok.place c.args.heap.now.work.heap c.take_range.new.heap.work c.requires.heap c.in-Ok.ensures.covers c.in-Ok.ensures.within
     (g.S.ReadBytes.image c.take_range.new.space) (g.S.ReadBytes.image c.write_chunk.new.space) c.write_chunk.ensures.bytes c.in-Ok.ensures.threads
 
 pub returns-in-Ok-write_chunk-clause-bytes : goal.returns-in-Ok-write_chunk-clause-bytes
 returns-in-Ok-write_chunk-clause-bytes g c =
-    written_in_room c.args.n c.in-Ok.place c.args.heap.now.now c.take_range.new.heap.now c.requires.heap c.in-Ok.ensures.covers c.in-Ok.ensures.within
+    written_in_room c.args.n c.in-Ok.place c.args.heap.now.work.heap c.take_range.new.heap.work.heap c.requires.heap c.in-Ok.ensures.covers c.in-Ok.ensures.within
     (g.S.ReadBytes.image c.args.space.now) (g.S.ReadBytes.image c.take_range.new.space) (g.S.ReadBytes.image c.write_chunk.new.space) c.take_range.ensures.bytes c.write_chunk.ensures.bytes
 
 pub returns-in-Err-write_chunk-clause-bytes : goal.returns-in-Err-write_chunk-clause-bytes
 returns-in-Err-write_chunk-clause-bytes g c =
-    written_in_room c.args.n c.in-Ok.place c.args.heap.now.now c.take_range.new.heap.now c.requires.heap c.in-Ok.ensures.covers c.in-Ok.ensures.within
+    written_in_room c.args.n c.in-Ok.place c.args.heap.now.work.heap c.take_range.new.heap.work.heap c.requires.heap c.in-Ok.ensures.covers c.in-Ok.ensures.within
     (g.S.ReadBytes.image c.args.space.now) (g.S.ReadBytes.image c.take_range.new.space) (g.S.ReadBytes.image c.write_chunk.new.space) c.take_range.ensures.bytes c.write_chunk.ensures.bytes
 
 pub returns-in-Ok-write_chunk-clause-end : goal.returns-in-Ok-write_chunk-clause-end
 returns-in-Ok-write_chunk-clause-end g c =
-    end_then c.args.heap.now.now.end c.take_range.new.heap.now.end c.take_range.new.heap.now.end (g.S.ReadBytes.image c.args.space.now) (g.S.ReadBytes.image c.take_range.new.space) (g.S.ReadBytes.image c.write_chunk.new.space) c.in-Ok.ensures.end
-    (end_stays c.args.n c.in-Ok.place c.args.heap.now.now c.take_range.new.heap.now c.requires.heap c.in-Ok.ensures.covers c.in-Ok.ensures.within
+    end_then c.args.heap.now.work.heap.end c.take_range.new.heap.work.heap.end c.take_range.new.heap.work.heap.end (g.S.ReadBytes.image c.args.space.now) (g.S.ReadBytes.image c.take_range.new.space) (g.S.ReadBytes.image c.write_chunk.new.space) c.in-Ok.ensures.end
+    (end_stays c.args.n c.in-Ok.place c.args.heap.now.work.heap c.take_range.new.heap.work c.requires.heap c.in-Ok.ensures.covers c.in-Ok.ensures.within
     (g.S.ReadBytes.image c.take_range.new.space) (g.S.ReadBytes.image c.write_chunk.new.space) c.write_chunk.ensures.bytes c.in-Ok.ensures.threads)
 
 pub returns-in-Ok-write_chunk-clause-fillers : goal.returns-in-Ok-write_chunk-clause-fillers
 returns-in-Ok-write_chunk-clause-fillers g c =
-    fillers_then c.args.heap.now.now.gaps c.take_range.new.heap.now.gaps c.take_range.new.heap.now.gaps (g.S.ReadBytes.image c.args.space.now) (g.S.ReadBytes.image c.take_range.new.space) (g.S.ReadBytes.image c.write_chunk.new.space) c.in-Ok.ensures.fillers
-    (fillers_stay c.args.n c.in-Ok.place c.args.heap.now.now c.take_range.new.heap.now c.requires.heap c.in-Ok.ensures.covers c.in-Ok.ensures.within
+    fillers_then c.args.heap.now.work.heap.gaps c.take_range.new.heap.work.heap.gaps c.take_range.new.heap.work.heap.gaps (g.S.ReadBytes.image c.args.space.now) (g.S.ReadBytes.image c.take_range.new.space) (g.S.ReadBytes.image c.write_chunk.new.space) c.in-Ok.ensures.fillers
+    (fillers_stay c.args.n c.in-Ok.place c.args.heap.now.work.heap c.take_range.new.heap.work c.requires.heap c.in-Ok.ensures.covers c.in-Ok.ensures.within
     (g.S.ReadBytes.image c.take_range.new.space) (g.S.ReadBytes.image c.write_chunk.new.space) c.write_chunk.ensures.bytes c.in-Ok.ensures.threads)

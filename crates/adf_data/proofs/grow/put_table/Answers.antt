@@ -8,10 +8,10 @@ use Rattle.adf_data.proofs.GrowLaws.{all_tables}
 use Rattle.adf_data.proofs.grow.put_table.Goals as goal
 
 pub returns-in-Err-clause-bytes : goal.returns-in-Err-clause-bytes
-returns-in-Err-clause-bytes g c = taken_in_room c.args.heap.now.now c.take_range.new.heap.now (g.S.ReadBytes.image c.args.space.now) (g.S.ReadBytes.image c.take_range.new.space) c.take_range.ensures.bytes
+returns-in-Err-clause-bytes g c = taken_in_room c.args.heap.now.work.heap c.take_range.new.heap.work.heap (g.S.ReadBytes.image c.args.space.now) (g.S.ReadBytes.image c.take_range.new.space) c.take_range.ensures.bytes
 
 pub returns-in-Err-table_text-clause-bytes : goal.returns-in-Err-table_text-clause-bytes
-returns-in-Err-table_text-clause-bytes g c = taken_in_room c.args.heap.now.now c.take_range.new.heap.now (g.S.ReadBytes.image c.args.space.now) (g.S.ReadBytes.image c.take_range.new.space) c.take_range.ensures.bytes
+returns-in-Err-table_text-clause-bytes g c = taken_in_room c.args.heap.now.work.heap c.take_range.new.heap.work.heap (g.S.ReadBytes.image c.args.space.now) (g.S.ReadBytes.image c.take_range.new.space) c.take_range.ensures.bytes
 
 pub returns-in-Ok-store-clause-puts : goal.returns-in-Ok-store-clause-puts
 returns-in-Ok-store-clause-puts g c =
@@ -23,27 +23,27 @@ returns-in-Ok-store-clause-puts g c =
 
 pub returns-in-Ok-store-clause-threads : goal.returns-in-Ok-store-clause-threads
 returns-in-Ok-store-clause-threads g c =
-    threads_stay (44 + 24 * length c.args.chunks.now) c.in-Ok.place c.args.heap.now.now c.take_range.new.heap.now c.requires.heap c.in-Ok.ensures.covers c.in-Ok.ensures.within
+    threads_stay (44 + 24 * length c.args.chunks.now) c.in-Ok.place c.args.heap.now.work.heap c.take_range.new.heap.work c.requires.heap c.in-Ok.ensures.covers c.in-Ok.ensures.within
     (g.S.ReadBytes.image c.take_range.new.space) (g.S.ReadBytes.image c.store.new.space) (subst (λ m. Both (KeepsOutside c.in-Ok.place m) (g.S.ReadBytes.image c.take_range.new.space) (g.S.ReadBytes.image c.store.new.space)) (ap length c.deref.ensures.value ∙ c.in-Ok-table_text.ensures.long) c.store.ensures.bytes) c.in-Ok.ensures.threads
 
 pub returns-in-Ok-store-clause-bytes : goal.returns-in-Ok-store-clause-bytes
 returns-in-Ok-store-clause-bytes g c =
-    written_in_room (44 + 24 * length c.args.chunks.now) c.in-Ok.place c.args.heap.now.now c.take_range.new.heap.now c.requires.heap c.in-Ok.ensures.covers c.in-Ok.ensures.within
+    written_in_room (44 + 24 * length c.args.chunks.now) c.in-Ok.place c.args.heap.now.work.heap c.take_range.new.heap.work.heap c.requires.heap c.in-Ok.ensures.covers c.in-Ok.ensures.within
     (g.S.ReadBytes.image c.args.space.now) (g.S.ReadBytes.image c.take_range.new.space) (g.S.ReadBytes.image c.store.new.space) c.take_range.ensures.bytes (subst (λ m. Both (KeepsOutside c.in-Ok.place m) (g.S.ReadBytes.image c.take_range.new.space) (g.S.ReadBytes.image c.store.new.space)) (ap length c.deref.ensures.value ∙ c.in-Ok-table_text.ensures.long) c.store.ensures.bytes)
 
 pub returns-in-Ok-store-clause-end : goal.returns-in-Ok-store-clause-end
 returns-in-Ok-store-clause-end g c =
-    end_then c.args.heap.now.now.end c.take_range.new.heap.now.end c.take_range.new.heap.now.end (g.S.ReadBytes.image c.args.space.now) (g.S.ReadBytes.image c.take_range.new.space) (g.S.ReadBytes.image c.store.new.space) c.in-Ok.ensures.end
-    (end_stays (44 + 24 * length c.args.chunks.now) c.in-Ok.place c.args.heap.now.now c.take_range.new.heap.now c.requires.heap c.in-Ok.ensures.covers c.in-Ok.ensures.within
+    end_then c.args.heap.now.work.heap.end c.take_range.new.heap.work.heap.end c.take_range.new.heap.work.heap.end (g.S.ReadBytes.image c.args.space.now) (g.S.ReadBytes.image c.take_range.new.space) (g.S.ReadBytes.image c.store.new.space) c.in-Ok.ensures.end
+    (end_stays (44 + 24 * length c.args.chunks.now) c.in-Ok.place c.args.heap.now.work.heap c.take_range.new.heap.work c.requires.heap c.in-Ok.ensures.covers c.in-Ok.ensures.within
     (g.S.ReadBytes.image c.take_range.new.space) (g.S.ReadBytes.image c.store.new.space) (subst (λ m. Both (KeepsOutside c.in-Ok.place m) (g.S.ReadBytes.image c.take_range.new.space) (g.S.ReadBytes.image c.store.new.space)) (ap length c.deref.ensures.value ∙ c.in-Ok-table_text.ensures.long) c.store.ensures.bytes) c.in-Ok.ensures.threads)
 
 pub returns-in-Ok-store-clause-fillers : goal.returns-in-Ok-store-clause-fillers
 returns-in-Ok-store-clause-fillers g c =
-    fillers_then c.args.heap.now.now.gaps c.take_range.new.heap.now.gaps c.take_range.new.heap.now.gaps (g.S.ReadBytes.image c.args.space.now) (g.S.ReadBytes.image c.take_range.new.space) (g.S.ReadBytes.image c.store.new.space) c.in-Ok.ensures.fillers
-    (fillers_stay (44 + 24 * length c.args.chunks.now) c.in-Ok.place c.args.heap.now.now c.take_range.new.heap.now c.requires.heap c.in-Ok.ensures.covers c.in-Ok.ensures.within
+    fillers_then c.args.heap.now.work.heap.gaps c.take_range.new.heap.work.heap.gaps c.take_range.new.heap.work.heap.gaps (g.S.ReadBytes.image c.args.space.now) (g.S.ReadBytes.image c.take_range.new.space) (g.S.ReadBytes.image c.store.new.space) c.in-Ok.ensures.fillers
+    (fillers_stay (44 + 24 * length c.args.chunks.now) c.in-Ok.place c.args.heap.now.work.heap c.take_range.new.heap.work c.requires.heap c.in-Ok.ensures.covers c.in-Ok.ensures.within
     (g.S.ReadBytes.image c.take_range.new.space) (g.S.ReadBytes.image c.store.new.space) (subst (λ m. Both (KeepsOutside c.in-Ok.place m) (g.S.ReadBytes.image c.take_range.new.space) (g.S.ReadBytes.image c.store.new.space)) (ap length c.deref.ensures.value ∙ c.in-Ok-table_text.ensures.long) c.store.ensures.bytes) c.in-Ok.ensures.threads)
 
 pub returns-clause-bytes : goal.returns-clause-bytes
 returns-clause-bytes g c =
-    written_in_room (44 + 24 * length c.args.chunks.now) c.in-Ok.place c.args.heap.now.now c.take_range.new.heap.now c.requires.heap c.in-Ok.ensures.covers c.in-Ok.ensures.within
+    written_in_room (44 + 24 * length c.args.chunks.now) c.in-Ok.place c.args.heap.now.work.heap c.take_range.new.heap.work.heap c.requires.heap c.in-Ok.ensures.covers c.in-Ok.ensures.within
     (g.S.ReadBytes.image c.args.space.now) (g.S.ReadBytes.image c.take_range.new.space) (g.S.ReadBytes.image c.store.new.space) c.take_range.ensures.bytes (subst (λ m. Both (KeepsOutside c.in-Ok.place m) (g.S.ReadBytes.image c.take_range.new.space) (g.S.ReadBytes.image c.store.new.space)) (ap length c.deref.ensures.value ∙ c.in-Ok-table_text.ensures.long) c.store.ensures.bytes)
