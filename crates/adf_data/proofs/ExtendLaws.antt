@@ -26,7 +26,7 @@ use Rattle.adf_model.specs.NodeData.{grown_range}
 use Rattle.adf_model.proofs.Writes.DataRoom.{cover-give_all}
 use Rattle.disk_ptr.specs.View.{view}
 use Rattle.file_heap.specs.Links.{range}
-use Rattle.file_heap.specs.Heap.{IsHeap, ChangesOnly, MovesEnd, KeepsFillers, IsTakenWithin, TakesCover}
+use Rattle.file_heap.specs.Heap.{FreeSpace, IsThreaded, IsHeap, ChangesOnly, MovesEnd, KeepsFillers, IsTakenWithin, TakesCover}
 use Rattle.file_heap.proofs.ChangeLaws.{widened, changes_then}
 use Rattle.adf_data.specs.declared.place.DataPlace.{DataPlace}
 use Rattle.adf_data.specs.Ranges.{AreIn, byte_place}

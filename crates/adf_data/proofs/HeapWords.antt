@@ -1,6 +1,6 @@
 -- What the calls of the heap say, in the words of this crate.
 use Rattle.std.proofs.Common.{◌≡◌, ℕ, ◌≤◌, List, subst, ap, arith}
-use Rattle.std.specs.Prelude.{Option, None, Some, Result, Ok, Err, IfOk, IfErr, IfSome, OnErr}
+use Rattle.std.specs.Prelude.{Option, None, Some, Result, Ok, Err, IfOk, IfSome, OnErr}
 use Rattle.cg_io.specs.Blocks.{Both}
 use Rattle.cg_io.specs.Answers.{IsRefusal}
 use Rattle.cg_io.proofs.ReadLaws.{rose_later}
@@ -11,7 +11,6 @@ use Rattle.file_heap.specs.Heap as heap
 use Rattle.adf_format.specs.Placement.{Heap}
 use Rattle.adf_format.specs.HeapRule.{heap_take}
 use Rattle.adf_format.proofs.HeapSteps.{take_end}
-use Rattle.adf_data.specs.Sizes.{IsGrowRefusal}
 
 -- ---- takes
 
@@ -36,17 +35,6 @@ none_falls limit n old new e t = let s = ap (λ (h : Heap). h.end) (none_taken l
 pub takes_grow : (limit n : ℕ) (old new : Heap) (r : Result ℕ AdfError) → heap.TakesBy limit n old r new → old.end ≤ new.end
 takes_grow limit n old new (Ok place) t = take_end limit n old place new t
 takes_grow limit n old new (Err e) t = none_falls limit n old new e t
-
-grow_refusal : (P Q : Type 0) (a b : ℕ) (e : AdfError) → (P → Q) → heap.IsTakeRefusal P a b e → IsGrowRefusal Q a b e
-grow_refusal P Q a b (error.Full asked end) f h = tt
-grow_refusal P Q a b error.Memory f h = h
-grow_refusal P Q a b error.ReadFault f h = h
-grow_refusal P Q a b (error.Layout rule place) f h = (h.0, f h.1)
-grow_refusal P Q a b other f h = h
-
-pub grow_refusals : {T : Type 0} (P Q : Type 0) (a b : ℕ) (r : Result T AdfError) → (P → Q) → IfErr r (heap.IsTakeRefusal P a b) → IfErr r (IsGrowRefusal Q a b)
-grow_refusals P Q a b (Ok x) f h = h
-grow_refusals P Q a b (Err e) f h = grow_refusal P Q a b e f h
 
 -- ---- the end pointer and the fillers over one call after another
 
@@ -76,14 +64,14 @@ fillers_none a (Some bytes) = λ held. held
 
 -- ---- causes of a call that takes
 
-pub grow_later : (P Q : Type 0) (a b c : ℕ) (e : AdfError) → a ≤ b → (P → Q) → IsRefusal P b c e → IsGrowRefusal Q a c e
+pub grow_later : (P Q : Type 0) (a b c : ℕ) (e : AdfError) → a ≤ b → (P → Q) → IsRefusal P b c e → heap.IsTakeRefusal Q a c e
 grow_later P Q a b c (error.Full asked end) le f h = tt
 grow_later P Q a b c error.Memory le f h = h
 grow_later P Q a b c error.ReadFault le f h = rose_later a b c le h
 grow_later P Q a b c (error.Layout rule place) le f h = (h.0, f h.1)
 grow_later P Q a b c other le f h = h
 
-pub grown_later : (P Q : Type 0) (a b c : ℕ) (e : AdfError) → a ≤ b → (P → Q) → IsGrowRefusal P b c e → IsGrowRefusal Q a c e
+pub grown_later : (P Q : Type 0) (a b c : ℕ) (e : AdfError) → a ≤ b → (P → Q) → heap.IsTakeRefusal P b c e → heap.IsTakeRefusal Q a c e
 grown_later P Q a b c (error.Full asked end) le f h = tt
 grown_later P Q a b c error.Memory le f h = h
 grown_later P Q a b c error.ReadFault le f h = rose_later a b c le h

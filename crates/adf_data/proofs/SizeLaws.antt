@@ -1,21 +1,20 @@
 -- Where the rule places data of a size, and what the data are then.
-use Rattle.std.proofs.Common.{◌≡◌, ◌≢◌, ◌⊎◌, inl, inr, ℕ, ◌+◌, ◌-◌, ◌*◌, ◌<◌, ◌≤◌, arith, List, [], ◌∷◌, ◌++◌, length, take, drop, replicate, refl, sym, ◌∙◌, ap, subst, Bool, true, false}
+use Rattle.std.proofs.Common.{◌≡◌, ◌≢◌, ◌⊎◌, inl, inr, ℕ, ◌+◌, ◌-◌, ◌<◌, ◌≤◌, arith, List, [], ◌∷◌, ◌++◌, length, take, drop, replicate, refl, sym, ◌∙◌, ap, subst, Bool, true, false}
 use Rattle.std.proofs.lemmas.Bool.{cases_lt}
 use Rattle.std.proofs.lemmas.Bool.Decides.{nat_tests}
 use Rattle.std.proofs.lemmas.List.{append-nil, length-append, length-take, length-replicate, take-append-le, take-replicate, take_all}
 use Rattle.std.proofs.Math.Seq.{take-append-add}
-use Rattle.std.specs.Prelude.{Option, Some, None, IfSome, Result, Ok, Err, nat_le, nat_lt, if◌then◌else◌, find}
+use Rattle.std.specs.Prelude.{Option, Some, None, IfSome, Result, Ok, Err, nat_le, nat_lt, if◌then◌else◌}
 use Rattle.cg_io.specs.Blocks.{Both}
 use Rattle.cg_io.proofs.BothLaws.{both_map}
-use Rattle.adf_format.specs.declared.types.Extent.{Extent}
 use Rattle.adf_format.specs.Tiles.{cover}
 use Rattle.adf_format.specs.Spelled.{pointer_to}
 use Rattle.adf_format.specs.Parts.{payload, chunk_table_length}
 use Rattle.adf_format.specs.Placement.{Placement, NodeParts, ChunkPart, Heap, chunk_extents, chunk_table_extents}
 use Rattle.adf_format.specs.LaysOut.{chunk_pointer, payloads}
 use Rattle.adf_format.specs.Changes.{heap_fields}
-use Rattle.adf_format.proofs.HeapSteps.{cover-append, take_tells}
-use Rattle.adf_format.specs.HeapRule.{LimitReached, Taken, heap_take, take_from, is_fit, give_all, chunk_length_for, with_parts, after_gives, data_extents, chunk, in_one_chunk, in_one_more, payload_length, hold, ◌>>=◌}
+use Rattle.adf_format.proofs.HeapSteps.{cover-append}
+use Rattle.adf_format.specs.HeapRule.{LimitReached, Taken, heap_take, give_all, chunk_length_for, with_parts, after_gives, data_extents, chunk, in_one_chunk, in_one_more, payload_length, hold, ◌>>=◌}
 use Rattle.adf_model.specs.declared.error.AdfError.{AdfError}
 use Rattle.adf_model.specs.Edits.{resized}
 use Rattle.adf_model.specs.Selection.{written_over}
@@ -30,7 +29,7 @@ use Rattle.adf_data.specs.Ranges.{AreIn, ChangesBytes}
 use Rattle.adf_data.specs.Fills.{ZeroesBytes}
 use Rattle.adf_data.specs.Runs.{AreApart}
 use Rattle.adf_data.specs.Sizes.{extents_in, MayGiveAll, Ungivable}
-use Rattle.adf_data.specs.Growing.{changed_ranges, sized_ranges, AreReady, Gathers, GathersData, Extends, ExtendsData, Grows, GrowsData, IsFullAt, IsFullFor, AreOwn, Owns, IsSizeOf, ResizesData}
+use Rattle.adf_data.specs.Growing.{changed_ranges, sized_ranges, AreReady, Gathers, GathersData, Extends, ExtendsData, Grows, GrowsData, IsFullFor, AreOwn, Owns, IsSizeOf, ResizesData}
 use Rattle.adf_data.proofs.KeptLaws.{once_of}
 use Rattle.adf_data.proofs.DataLaws.{spelled_in}
 use Rattle.adf_data.proofs.StayLaws.{chunks_once, spelled_after, table_after}
@@ -58,9 +57,6 @@ module _ (limit : ℕ) (spot : DataSpot) where
       → (in_one_chunk limit (alone spot) 0 size >>= λ (q : Placement). Ok (spot_of q)) ≡ Ok (record spot.0 { chunks = chunk place (chunk_length_for size) ∷ []; chunk_table = None }, give_all (data_extents spot.0) after)
   one_placed size place after e = ap (one_chunk size) e
 
-  pub one_full : (size : ℕ) (full : LimitReached) → heap_take limit (chunk_length_for size) spot.1 ≡ Err full → (in_one_chunk limit (alone spot) 0 size >>= λ (q : Placement). Ok (spot_of q)) ≡ Err full
-  one_full size full e = ap (one_chunk size) e
-
   abbrev first_chunk : ℕ → Result (ℕ × Heap) LimitReached → Result DataSpot LimitReached
   first_chunk added r =
       ((r >>= λ (t : ℕ × Heap). Ok (t.0, record (alone spot) { heap = t.1 })) >>= λ (c : Taken).
@@ -72,10 +68,6 @@ module _ (limit : ℕ) (spot : DataSpot) where
       → (in_one_more limit (alone spot) 0 added >>= λ (q : Placement). Ok (spot_of q))
       ≡ Ok (record spot.0 { chunks = spot.0.chunks ++ chunk place (chunk_length_for added) ∷ []; chunk_table = Some list }, give_all (chunk_table_extents spot.0.chunk_table (length spot.0.chunks)) after)
   more_placed added place list middle after e f = ap (first_chunk added) e ∙ ap (last_table added (place, middle)) f
-
-  pub more_full : (added : ℕ) (full : LimitReached) → IsFullAt limit (chunk_length_for added) (chunk_table_length (length spot.0.chunks + 1)) spot.1 full → (in_one_more limit (alone spot) 0 added >>= λ (q : Placement). Ok (spot_of q)) ≡ Err full
-  more_full added full (inl e) = ap (first_chunk added) e
-  more_full added full (inr e) = ap (first_chunk added) e.2 ∙ ap (last_table added (e.0, e.1)) e.3
 
   abbrev placed_by : List ChunkPart → ℕ → Bool → Bool → Result DataSpot LimitReached
   placed_by cs size fits few =
@@ -379,33 +371,6 @@ same_error a b e = cc
 pub same_refusal : {X Y : Type 0} (a b : AdfError) → ◌≡◌ {A = Result X AdfError} (Err a) (Err b) → ◌≡◌ {A = Result Y AdfError} (Err a) (Err b)
 same_refusal a b e = ap (λ (x : AdfError). Err x) (same_error a b e)
 
--- ---- where the limit is reached
-
-take_full : (limit n : ℕ) (heap : Heap) (full : LimitReached) → heap_take limit n heap ≡ Err full → limit * 4096 < heap.end + 1 + n
-take_full limit n heap full e = by_fit (find (is_fit n) heap.gaps) e
-  where
-    by_limit : (t : Bool) → nat_lt (limit * 4096) (heap.end + 1 + n) ≡ t → ◌≡◌ {A = Result (ℕ × Heap) LimitReached} (if t then Err (record { asked = n; end = heap.end }) else Ok (heap.end + 1, record heap { end = heap.end + n })) (Err full) → limit * 4096 < heap.end + 1 + n
-    by_limit true t e = grind (arith, nat_tests)
-    by_limit false t e = cc
-
-    by_fit : (o : Option Extent) → take_from limit n heap o ≡ Err full → limit * 4096 < heap.end + 1 + n
-    by_fit None e = by_limit (nat_lt (limit * 4096) (heap.end + 1 + n)) refl e
-    by_fit (Some g) e = cc
-
-pub grown_end_most : (limit n place : ℕ) (heap after : Heap) → heap_take limit n heap ≡ Ok (place, after) → after.end ≤ heap.end + n
-grown_end_most limit n place heap after e = elim (take_tells limit n heap place after e) [
-  | inl t ↦ (let s : after.end ≡ heap.end = t.4 in omega (arith, s))
-  | inr t ↦ (let s : after.end ≡ heap.end + n = t.3 in omega (arith, s))
-]
-
-pub one_full_at : (limit size : ℕ) (heap : Heap) (full : LimitReached) → heap_take limit (chunk_length_for size) heap ≡ Err full → limit * 4096 < heap.end + 1 + chunk_length_for size
-one_full_at limit size heap full e = take_full limit (chunk_length_for size) heap full e
-
-pub more_full_at : (limit size added count : ℕ) (heap : Heap) (full : LimitReached) → added ≤ size → count < 64 → IsFullAt limit (chunk_length_for added) (chunk_table_length (count + 1)) heap full → limit * 4096 < heap.end + 1 + chunk_length_for size + 1556
-more_full_at limit size added count heap full less few (inl e) = let f = take_full limit (chunk_length_for added) heap full e in omega (arith, f, less)
-more_full_at limit size added count heap full less few (inr e) =
-    let f = take_full limit (chunk_table_length (count + 1)) e.1 full e.3 in let g = grown_end_most limit (chunk_length_for added) e.0 heap e.1 e.2 in omega (arith, f, g, less, few)
-
 -- ---- growing, where bytes are told
 
 pub all_gathers_grow : (limit : ℕ) (table : Option ℕ) (parts : List ChunkPart) (was size : ℕ) (now : DataPlace) (before : Heap) (later : FreeSpace) (old new : Option (List ℕ)) → was ≤ payload_length parts → payload_length parts < size → (length parts ≡ 0) ⊎ (64 ≤ length parts)
@@ -420,13 +385,3 @@ all_extends_grow limit table parts was added size now before later old new le mo
     both_map (ExtendsData limit table parts was added now before later) (GrowsData limit table parts was size now before later) old new
     (λ o n g ready. extends_grow limit table parts was size now before later o n le more some few (let l = length-payloads parts o (spelled_in o parts ready.spelled) in omega (arith, l, le))
     (subst (λ a. Extends limit table parts was a now before later o n) is (g ready))) both
-
-pub gather_full_for : (limit : ℕ) (table : Option ℕ) (parts : List ChunkPart) (size : ℕ) (heap : Heap) (full : LimitReached) → payload_length parts < size → (length parts ≡ 0) ⊎ (64 ≤ length parts) → heap_take limit (chunk_length_for size) heap ≡ Err full → IsFullFor limit table parts size heap full
-gather_full_for limit table parts size heap full more many e at cs t =
-    ap (λ (xs : List ChunkPart). hold limit (alone (at, heap)) 0 size xs >>= λ (q : Placement). Ok (spot_of q)) cs ∙ placed_once limit (at, heap) size parts more many ∙ one_full limit (at, heap) size full e
-
-pub extend_full_for : (limit : ℕ) (table : Option ℕ) (parts : List ChunkPart) (size : ℕ) (heap : Heap) (full : LimitReached) → payload_length parts < size → 1 ≤ length parts → length parts < 64
-    → IsFullAt limit (chunk_length_for (size - payload_length parts)) (chunk_table_length (length parts + 1)) heap full → IsFullFor limit table parts size heap full
-extend_full_for limit table parts size heap full more some few f at cs t =
-    ap (λ (xs : List ChunkPart). hold limit (alone (at, heap)) 0 size xs >>= λ (q : Placement). Ok (spot_of q)) cs ∙ placed_more limit (at, heap) size parts more some few
-    ∙ more_full limit (at, heap) (size - payload_length parts) full (subst (λ n. IsFullAt limit (chunk_length_for (size - payload_length parts)) (chunk_table_length (n + 1)) heap full) (sym (ap length cs)) f)

@@ -6,7 +6,7 @@ use Rattle.std.specs.Prelude.{Option, Some, None}
 use Rattle.cg_io.specs.Blocks.{Both}
 use Rattle.adf_format.specs.declared.types.Extent.{Extent}
 use Rattle.adf_format.specs.Tiles.{cover}
-use Rattle.adf_format.specs.Placement.{Heap, ChunkPart, chunk_extents}
+use Rattle.adf_format.specs.Placement.{ChunkPart, chunk_extents}
 use Rattle.adf_format.specs.LaysOut.{payloads}
 use Rattle.adf_format.specs.HeapRule.{payload_length}
 use Rattle.adf_model.specs.Selection.{written_over}

@@ -1,12 +1,10 @@
--- Ranges that are given to the gaps one after another, and why a call that gives is refused.
-use Rattle.std.specs.Prelude.{◌⊎◌, ℕ, ◌+◌, ◌≤◌, List, ◌++◌, length, Option, ⊤}
+-- Ranges that are given to the gaps one after another, and what refuses to give them.
+use Rattle.std.specs.Prelude.{◌⊎◌, ℕ, ◌+◌, ◌≤◌, List, ◌++◌, length, Option}
 use Rattle.std.specs.List.{AllByRecursion}
 use Rattle.adf_format.specs.declared.types.Extent.{Extent}
 use Rattle.adf_format.specs.Tiles.{cover, end_of}
 use Rattle.adf_format.specs.Placement.{Heap, ChunkPart, chunk_extents, chunk_table_extents}
-use Rattle.adf_model.specs.declared.error.AdfError.{AdfError}
-use Rattle.adf_model.specs.declared.error.AdfError.TheVariants as error
-use Rattle.cg_io.specs.Answers.{IsRefusal, IsUntold}
+use Rattle.cg_io.specs.Answers.{IsUntold}
 
 -- chunks and their table
 abbrev pub extents_in : Option ℕ → List ChunkPart → List Extent
@@ -20,8 +18,3 @@ pub record MayGiveAll (es : List Extent) (heap : Heap) : Type 0 where
 -- the bytes are not told, or some of the ranges may not be given
 abbrev pub Ungivable : Option (List ℕ) → List Extent → Heap → Type 0
 Ungivable image es heap = IsUntold image ⊎ (MayGiveAll es heap → ⊥)
-
--- why a call that takes is refused: the address limit, or, under a condition, what refuses other calls
-abbrev pub IsGrowRefusal : Type 0 → ℕ → ℕ → AdfError → Type 0
-IsGrowRefusal unread before now (error.Full asked end) = ⊤
-IsGrowRefusal unread before now other = IsRefusal unread before now other

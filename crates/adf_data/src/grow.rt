@@ -8,9 +8,9 @@ ghost use Rattle.adf_format.specs.Placement.{Heap, chunk_table_extents};
 ghost use Rattle.adf_format.specs.Changes.{heap_fields};
 ghost use Rattle.adf_format.specs.HeapRule.{LimitReached, heap_take, give_all, payload_length, chunk_length_for, pairs};
 ghost use Rattle.adf_model.specs.declared.error.AdfError.{AdfError};
-ghost use Rattle.file_heap.specs.Heap.{IsHeap, IsThreaded, ChangesOnly, MovesEnd, KeepsFillers, IsTakenWithin, TakesCover};
+ghost use Rattle.file_heap.specs.Heap.{IsHeap, IsThreaded, IsTakeRefusal, ChangesOnly, MovesEnd, KeepsFillers, IsTakenWithin, TakesCover};
 ghost use Rattle.adf_data.specs.Chunks.{part_of, parts_of, IsSane};
-ghost use Rattle.adf_data.specs.Sizes.{extents_in, Ungivable, IsGrowRefusal};
+ghost use Rattle.adf_data.specs.Sizes.{extents_in, Ungivable};
 ghost use Rattle.adf_format.specs.Parts.{chunk_table_length};
 ghost use Rattle.disk_ptr.specs.View.{HasOffset};
 ghost use Rattle.adf_data.specs.Growing.{room_of, changed_ranges, PutsChunk, PutsTable, GathersData, ExtendsData, GrowsData, IsFullAt, IsFullFor, room_of_table};
@@ -78,7 +78,7 @@ pub(crate) fn put_chunk<S: Space>(
         (KeepsFillers heap.old.work.heap.gaps heap.new.work.heap.gaps)
         (S.image space.old) (S.image space.new)) }
     ensures effect { OnlyReads (S.state space.old) (S.state space.new) }
-    ensures cause { IfErr result (IsGrowRefusal (IsUntold (S.image space.old))
+    ensures cause { IfErr result (IsTakeRefusal (IsUntold (S.image space.old))
         (S.state space.old).faults (S.state space.new).faults) }
 {
     let place = match take_range(heap, space, n) {
@@ -132,7 +132,7 @@ pub(crate) fn put_table<S: Space>(
         (KeepsFillers heap.old.work.heap.gaps heap.new.work.heap.gaps)
         (S.image space.old) (S.image space.new)) }
     ensures effect { OnlyReads (S.state space.old) (S.state space.new) }
-    ensures cause { IfErr result (IsGrowRefusal (IsUntold (S.image space.old))
+    ensures cause { IfErr result (IsTakeRefusal (IsUntold (S.image space.old))
         (S.state space.old).faults (S.state space.new).faults) }
 {
     let place = match take_range(heap, space, 44 + 24 * chunks.len() as u64) {
@@ -183,7 +183,7 @@ fn gather<S: Space>(
         (S.image space.old)
         (S.image space.new) }
     ensures effect { OnlyReads (S.state space.old) (S.state space.new) }
-    ensures cause { IfErr result (IsGrowRefusal
+    ensures cause { IfErr result (IsTakeRefusal
         (Ungivable (S.image space.old) (extents_in table (parts_of chunks.now)) heap.old.work.heap)
         (S.state space.old).faults (S.state space.new).faults) }
 {
@@ -241,7 +241,7 @@ fn extend<S: Space>(
         (S.image space.old)
         (S.image space.new) }
     ensures effect { OnlyReads (S.state space.old) (S.state space.new) }
-    ensures cause { IfErr result (IsGrowRefusal
+    ensures cause { IfErr result (IsTakeRefusal
         (Ungivable (S.image space.old) (extents_in table (parts_of chunks.now)) heap.old.work.heap)
         (S.state space.old).faults (S.state space.new).faults) }
 {
@@ -318,7 +318,7 @@ pub(crate) fn grow<S: Space>(
         (S.image space.old)
         (S.image space.new) }
     ensures effect { OnlyReads (S.state space.old) (S.state space.new) }
-    ensures cause { IfErr result (IsGrowRefusal
+    ensures cause { IfErr result (IsTakeRefusal
         (Ungivable (S.image space.old) (extents_in table (parts_of chunks.now)) heap.old.work.heap)
         (S.state space.old).faults (S.state space.new).faults) }
 {

@@ -7,8 +7,7 @@ ghost use Rattle.adf_format.specs.Changes.{heap_fields};
 ghost use Rattle.adf_format.specs.HeapRule.{LimitReached, heap_take, heap_give, pairs};
 ghost use Rattle.adf_model.specs.declared.error.AdfError.{AdfError};
 ghost use Rattle.file_heap.specs.Links.{range};
-ghost use Rattle.file_heap.specs.Heap.{IsHeap, IsThreaded, MayGive, ChangesOnly, MovesEnd, KeepsFillers, IsTakenWithin, TakesCover};
-ghost use Rattle.adf_data.specs.Sizes.{IsGrowRefusal};
+ghost use Rattle.file_heap.specs.Heap.{IsHeap, IsThreaded, IsTakeRefusal, MayGive, ChangesOnly, MovesEnd, KeepsFillers, IsTakenWithin, TakesCover};
 
 use adf_model::AdfError;
 use cg_io::Space;
@@ -44,7 +43,7 @@ pub(crate) fn take_range<S: Space>(heap: &mut Heap, space: &mut S, n: u64) -> Re
         (S.image space.old) (S.image space.new)) }
     ensures effect { OnlyReads (S.state space.old) (S.state space.new) }
     ensures waits { S.waiting space.new ≤ S.waiting space.old + 9 }
-    ensures cause { IfErr result (IsGrowRefusal (IsUntold (S.image space.old))
+    ensures cause { IfErr result (IsTakeRefusal (IsUntold (S.image space.old))
         (S.state space.old).faults (S.state space.new).faults) }
 {
     heap.take(space, n)

@@ -9,13 +9,13 @@ ghost use Rattle.adf_format.specs.Changes.{heap_fields};
 ghost use Rattle.adf_format.specs.HeapRule.{LimitReached, give_all, data_extents, payload_length, chunk_length_for, pairs};
 ghost use Rattle.disk_ptr.specs.View.{HasOffset};
 ghost use Rattle.disk_ptr.specs.declared.DiskPtr.{DiskPtr};
-ghost use Rattle.file_heap.specs.Heap.{IsHeap, IsThreaded, ChangesOnly, MovesEnd, KeepsFillers};
+ghost use Rattle.file_heap.specs.Heap.{IsHeap, IsThreaded, IsTakeRefusal, ChangesOnly, MovesEnd, KeepsFillers};
 ghost use Rattle.adf_model.specs.declared.error.AdfError.{AdfError};
 ghost use Rattle.adf_model.specs.NodeData.{resized_spot};
 ghost use Rattle.adf_data.specs.Chunks.{parts_of, IsSane, Named};
 ghost use Rattle.adf_data.specs.Ranges.{ChangesBytes};
 ghost use Rattle.adf_data.specs.Fills.{ZeroesBytes};
-ghost use Rattle.adf_data.specs.Sizes.{MayGiveAll, IsGrowRefusal};
+ghost use Rattle.adf_data.specs.Sizes.{MayGiveAll};
 ghost use Rattle.adf_data.specs.Growing.{ResizesData, Owns, sized_ranges, room_of_table};
 
 use crate::chunks::{Chunk, list_chunks, table_in};
@@ -142,7 +142,7 @@ pub fn resize<S: Space>(
         → resized_spot heap.old.limit new (parts, heap.old.work.heap)
         ≡ Err (record { asked = asked; end = end }) }
     ensures effect { OnlyReads (S.state space.old) (S.state space.new) }
-    ensures cause { IfErr result (IsGrowRefusal ((parts : NodeParts) (bytes : Option (List ℕ))
+    ensures cause { IfErr result (IsTakeRefusal ((parts : NodeParts) (bytes : Option (List ℕ))
         → Owns at.old old parts bytes heap.old.work.heap (S.image space.old)
         → ⊥) (S.state space.old).faults (S.state space.new).faults) }
 {
