@@ -1,5 +1,5 @@
 -- A label that is written in a node's header, and the refusals of labels.
-use Rattle.std.proofs.Common.{◌≡◌, ℕ, refl, sym, ◌∙◌, ap, subst, List, [], ◌∷◌, length, ◌+◌, Bool, true, false, not, ◌||◌, Option, None, Some}
+use Rattle.std.proofs.Common.{◌≡◌, ℕ, refl, sym, ◌∙◌, ap, subst, arith, List, [], ◌∷◌, length, ◌+◌, Bool, true, false, not, ◌||◌, Option, None, Some}
 use Rattle.std.specs.Prelude.{is_some, IfSome, Result, Ok, OnOk, IfErr}
 use Rattle.std.proofs.lemmas.Result.{on_ok_weaker, IfErr-weaker}
 use Rattle.cg_io.specs.Blocks.{Both}
@@ -32,6 +32,7 @@ use Rattle.tree_edits.specs.Rows.{Means, row_of}
 use Rattle.tree_edits.specs.Edits.{memory_of, Does, Refuses}
 use Rattle.tree_edits.proofs.Tables.{table_stays}
 use Rattle.tree_edits.proofs.Nodes.{the_node, header_says, no_break, no_node}
+use Rattle.tree_edits.proofs.Stays.{threads_stay, header_own}
 
 -- ---- the tests
 
@@ -116,6 +117,7 @@ module _ (image : List ℕ) (core : Core) (node : NodeId) (label : List ℕ) whe
               wide = m.wide;
               table = table_stays tree p node.serial n.node (record n.node { label = label }) n.is.live refl core.rows.items m.table;
               heap = m.heap;
+              threads = threads_stay image new tree p m.laid_out (range (row.place + 36) 32 ∷ []) (header_own image tree p node.serial n.parts m.laid_out n.is.stands row.place n.at 36 32 (omega arith)) core.heap.work m.heap only m.threads;
             };
           }
 

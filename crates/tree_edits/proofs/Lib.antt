@@ -1,4 +1,5 @@
 pub mod Tables
 pub mod Nodes
+pub mod Stays
 pub mod Labels
 pub mod Causes

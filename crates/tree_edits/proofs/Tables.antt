@@ -14,7 +14,7 @@ use Rattle.adf_model.proofs.Keeping.Keeps.{at-set}
 use Rattle.tree_edits.specs.declared.rows.Row.{Row}
 use Rattle.tree_edits.specs.Rows.{SaysRow, IsRowOf, IsTable}
 
-there : {A : Type 0} (o : Option A) → is_some o ≡ true → (a : A) × (o ≡ Some a)
+pub there : {A : Type 0} (o : Option A) → is_some o ≡ true → (a : A) × (o ≡ Some a)
 there None h = absurd (not_true h)
 there (Some a) h = (a, refl)
 

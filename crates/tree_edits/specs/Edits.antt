@@ -11,7 +11,7 @@ use Rattle.tree_edits.specs.Rows.{Memory, Means}
 
 -- what is in memory, in work
 abbrev pub memory_of : Core → Memory
-memory_of core = record { wide = core.wide; rows = core.rows.items; heap = core.heap.now }
+memory_of core = record { wide = core.wide; rows = core.rows.items; free = core.heap.work }
 
 -- Of a tree and a placement: the tree of the edit, where the rule of the heap puts it, with all that an edit leaves; and what
 -- is in memory afterwards is its.

@@ -2,9 +2,10 @@
 use Rattle.std.specs.Prelude.{◌≡◌, ℕ, ◌+◌, ◌^◌, ◌≤◌, Bool, List, length, Option, Some, None, slice_index_or, IsSome, IfSome}
 use Rattle.adf_format.specs.RecordFields.{node_length}
 use Rattle.adf_format.specs.Tree.{Tree, node_at, next_serial, parent_of, depth_of}
-use Rattle.adf_format.specs.Placement.{Placement, Heap}
+use Rattle.adf_format.specs.Placement.{Placement}
 use Rattle.adf_format.specs.LaysOut.{LaysOut}
 use Rattle.adf_format.specs.HeapRule.{parts_at}
+use Rattle.file_heap.specs.Heap.{FreeSpace, IsThreaded}
 use Rattle.tree_edits.specs.declared.rows.Row.{Row}
 
 -- a row says where the node of a serial stands, and what is above it
@@ -35,11 +36,12 @@ AreNear wide rows = (serial : ℕ) → IfSome (row_of rows serial) (λ row. row.
 pub record Memory : Type 0 where
   pub wide : Bool
   pub rows : List (Option Row)
-  pub heap : Heap
+  pub free : FreeSpace
 
 -- the bytes lay out this tree at this placement, and what is kept in memory is its
 pub record Means (image : List ℕ) (tree : Tree) (p : Placement) (memory : Memory) : Type 0 where
   pub laid_out : LaysOut image tree p
   pub wide : tree.wide ≡ memory.wide
   pub table : IsTable tree p memory.rows
-  pub heap : p.heap ≡ memory.heap
+  pub heap : p.heap ≡ memory.free.heap
+  pub threads : IsThreaded memory.free image

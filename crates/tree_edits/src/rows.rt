@@ -1,7 +1,8 @@
 //! The table of the nodes by their serials.
 
-ghost use Rattle.std.specs.Prelude.{◌≡◌, length};
-ghost use Rattle.tree_edits.specs.Rows.{row_of};
+ghost use Rattle.std.specs.Prelude.{◌≡◌, ◌+◌, ◌^◌, ◌≤◌, length, IfSome, IsTrue};
+ghost use Rattle.adf_format.specs.RecordFields.{node_length};
+ghost use Rattle.tree_edits.specs.Rows.{AreNear, row_of};
 
 use std::alloc::Global;
 use std::marker::Model;
@@ -75,6 +76,14 @@ impl Rows {
         }
     }
 
+    /// Whether each header ends by the greatest place that a file has.
+    pub fn are_near(&self, wide: bool) -> bool
+        ensures may { IsTrue result → AreNear wide self.now.items }
+        ensures must { AreNear wide self.now.items → IsTrue result }
+    {
+        all_near(&self.items, wide)
+    }
+
     /// What the rows are now is accepted. It takes no memory.
     pub fn accept(&mut self)
         ensures { self.new ≡ record self.old { kept = self.old.items } }
@@ -82,4 +91,28 @@ impl Rows {
         self.undone.clear();
         self.kept = self.items.len();
     }
+}
+
+// Whether the header of a row ends by the greatest place.
+fn is_near(row: Option<Row>, wide: bool) -> bool
+    ensures may { IsTrue result → IfSome row (λ r. r.place + node_length wide ≤ 2 ^ 44) }
+    ensures must { IfSome row (λ r. r.place + node_length wide ≤ 2 ^ 44) → IsTrue result }
+{
+    let length: u64 = if wide { 342 } else { 246 };
+    match row {
+        Some(row) => row.place <= (1 << 44) - length,
+        None => true,
+    }
+}
+
+fn all_near(rows: &[Option<Row>], wide: bool) -> bool
+    ensures may { IsTrue result → AreNear wide rows.now }
+    ensures must { AreNear wide rows.now → IsTrue result }
+{
+    for serial in 0..rows.len() {
+        if !is_near(rows[serial], wide) {
+            return false;
+        }
+    }
+    true
 }
