@@ -1,0 +1,27 @@
+//! What is answered where a call of the space fails.
+use crate::steps::{Step, run_failing};
+use std::alloc::Global;
+use std::process::Abort;
+use std::test::Fail;
+
+/// Each edit that only reads and writes.
+const EDITS: [Step; 1] = [Step::Label {
+    node: 1,
+    label: b"CGNSBase_t",
+}];
+
+// Each call of the space in turn fails: the answer is that fault, until no call is left to fail.
+fn each_call_may_fail(rt: &impl Abort, alloc: Global, memory: bool) -> Result<(), Fail> {
+    for k in 1..40 {
+        if !run_failing(rt, alloc, k, memory, &EDITS)? {
+            return Ok(());
+        }
+    }
+    Err("more calls than were to fail")?
+}
+
+#[test]
+fn each_call_of_the_space_may_fail(rt: HostRuntime) -> Result<(), Fail> {
+    each_call_may_fail(&rt, rt.alloc(), false)?;
+    each_call_may_fail(&rt, rt.alloc(), true)
+}

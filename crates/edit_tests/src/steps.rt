@@ -1,0 +1,202 @@
+//! Edits of a file and what is expected after them, as steps of a table.
+//!
+//! Each helper makes one call, where its condition holds, and has no clause.
+use crate::files::{A, B, C, END, LINK, ROOT, four_nodes};
+use crate::spaces::Bytes;
+use adf_chunks::Extents;
+use adf_model::{AdfError, NodeId};
+use file_heap::Heap;
+use std::alloc::Global;
+use std::process::Abort;
+use std::test::Fail;
+use tree_edits::{Core, Row, Rows, set_label};
+
+/// An edit, or what is expected where it stands.
+#[derive(Clone, Copy)]
+pub enum Step {
+    Label {
+        node: u64,
+        label: &'static [u8],
+    },
+    /// A label that is refused.
+    NoLabel {
+        node: u64,
+        label: &'static [u8],
+        error: AdfError,
+    },
+    /// Bytes that are put into the space behind the edits' back.
+    Put {
+        at: u64,
+        bytes: &'static [u8],
+    },
+    /// Bytes of the space.
+    Bytes {
+        at: u64,
+        are: &'static [u8],
+    },
+    /// Only bytes in these ranges differ from those of the file as it was made.
+    Within {
+        ranges: &'static [(u64, u64)],
+    },
+}
+
+/// Whether a condition of a call does not hold: no call is made then.
+const NOT_CALLED: AdfError = AdfError::NotFound;
+
+/// The rows of the file: serial 3 is the link, serial 5 is not live.
+const ROWS: [Option<Row>; 6] = [
+    Some(Row {
+        place: ROOT,
+        parent: None,
+        depth: 0,
+    }),
+    Some(Row {
+        place: A,
+        parent: Some(0),
+        depth: 1,
+    }),
+    Some(Row {
+        place: B,
+        parent: Some(0),
+        depth: 1,
+    }),
+    Some(Row {
+        place: LINK,
+        parent: Some(0),
+        depth: 1,
+    }),
+    Some(Row {
+        place: C,
+        parent: Some(1),
+        depth: 2,
+    }),
+    None,
+];
+
+// What is kept in memory of the file.
+fn new_core(
+    alloc: Global,
+    space: &mut Bytes,
+    wide: bool,
+    writable: bool,
+) -> Result<Core, AdfError> {
+    let none = Extents::new(Vec::new(alloc));
+    let heap = Heap::new(alloc, space, &none, END, 1)?;
+    let mut rows = Vec::new(alloc);
+    for row in ROWS {
+        if rows.push(row).is_err() {
+            return Err(AdfError::Memory);
+        }
+    }
+    Ok(Core {
+        heap,
+        rows: Rows::new(alloc, rows),
+        wide,
+        writable,
+    })
+}
+
+fn labels(space: &mut Bytes, core: &Core, serial: u64, label: &[u8]) -> Result<(), AdfError> {
+    if !core.rows.are_near(core.wide) {
+        return Err(NOT_CALLED);
+    }
+    set_label(space, core, NodeId { file: 0, serial }, label)
+}
+
+// Whether an edit is refused with an error; where it wants memory or a read failed otherwise, that is the answer.
+fn is_refused(answer: Result<(), AdfError>, wanted: AdfError) -> Result<bool, AdfError> {
+    match answer {
+        Ok(()) => Ok(false),
+        Err(AdfError::Memory) => Err(AdfError::Memory),
+        Err(AdfError::ReadFault) => Err(AdfError::ReadFault),
+        Err(error) => Ok(error == wanted),
+    }
+}
+
+// Makes an edit, and tells whether it answered as expected.
+fn make(space: &mut Bytes, core: &Core, step: Step) -> Result<bool, AdfError> {
+    match step {
+        Step::Label { node, label } => {
+            labels(space, core, node, label)?;
+            Ok(true)
+        }
+        Step::NoLabel { node, label, error } => {
+            is_refused(labels(space, core, node, label), error)
+        }
+        Step::Put { at, bytes } => Ok(space.put(at, bytes)),
+        _ => Ok(true),
+    }
+}
+
+// Whether what is expected is so.
+fn is_so(space: &Bytes, made: &Bytes, step: Step) -> bool {
+    match step {
+        Step::Bytes { at, are } => space.holds(at, are),
+        Step::Within { ranges } => space.differs_within(made, ranges),
+        _ => true,
+    }
+}
+
+/// Takes steps up to the first edit that is refused, and stops the test at one that is not as expected.
+fn run(
+    rt: &impl Abort,
+    space: &mut Bytes,
+    made: &Bytes,
+    core: &Core,
+    steps: &[Step],
+) -> Result<(), AdfError> {
+    for (i, step) in steps.iter().enumerate() {
+        assert!(rt; make(space, core, *step)?, "at step {i}");
+        assert!(rt; is_so(space, made, *step), "at step {i}");
+    }
+    Ok(())
+}
+
+/// Takes steps on the file in one of the versions.
+pub fn run_on(
+    rt: &impl Abort,
+    alloc: Global,
+    wide: bool,
+    writable: bool,
+    steps: &[Step],
+) -> Result<(), Fail> {
+    let mut space = four_nodes(alloc, wide)?;
+    let made = space.copy(alloc)?;
+    let core = new_core(alloc, &mut space, wide, writable)?;
+    run(rt, &mut space, &made, &core, steps)?;
+    Ok(())
+}
+
+/// Takes steps on the file in both versions.
+pub fn run_both(rt: &impl Abort, alloc: Global, steps: &[Step]) -> Result<(), Fail> {
+    run_on(rt, alloc, false, true, steps)?;
+    run_on(rt, alloc, true, true, steps)
+}
+
+/// Takes steps where the k-th call of the space fails, for want of memory or by a fault: whether it does, and is answered.
+pub fn run_failing(
+    rt: &impl Abort,
+    alloc: Global,
+    failing: u64,
+    memory: bool,
+    steps: &[Step],
+) -> Result<bool, Fail> {
+    let mut space = four_nodes(alloc, false)?;
+    let made = space.copy(alloc)?;
+    let core = new_core(alloc, &mut space, false, true)?;
+    space.calls = 0;
+    space.failing = failing;
+    space.memory = memory;
+    match run(rt, &mut space, &made, &core, steps) {
+        Ok(()) => {
+            assert!(rt; space.calls < failing);
+            Ok(false)
+        }
+        Err(AdfError::Memory) if memory => Ok(true),
+        Err(AdfError::ReadFault) => {
+            assert!(rt; space.faults == 1, "at call {failing}");
+            Ok(true)
+        }
+        Err(error) => Err(error)?,
+    }
+}
