@@ -1,0 +1,12 @@
+pub mod Uncut
+pub mod Looks
+pub mod Steps
+pub mod Found
+pub mod Asked
+pub mod Entered
+pub mod AskMakes
+pub mod Waits
+pub mod DoneEdit
+pub mod UnderWay
+pub mod RunLaws
+pub mod StandLaws

@@ -1,0 +1,18 @@
+//! Links that are followed over open files, by their numbers: walks, queries and groups of edits.
+
+#![tactic(auto)]
+
+mod asks;
+mod edited;
+mod edits;
+pub mod groups;
+mod lookups;
+mod parts;
+pub mod runs;
+mod walks;
+
+pub use asks::ask;
+pub use edited::EditedFiles;
+pub use edits::edit_one;
+pub use lookups::{AskedFiles, OpenFiles};
+pub use walks::{MOST_LINKS, Reached, follow, reach, search, walk};
