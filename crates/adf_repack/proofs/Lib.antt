@@ -1,2 +1,3 @@
 pub mod WriterLaws
 pub mod PlaceLaws
+pub mod FamilyLaws

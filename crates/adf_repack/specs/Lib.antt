@@ -1,2 +1,3 @@
 pub mod Writers
 pub mod Places
+pub mod Families

@@ -4,8 +4,10 @@
 
 #![tactic(auto)]
 
+mod families;
 mod places;
 mod writer;
 
+pub use families::{Families, families_of};
 pub use places::{NodeShape, PackedPlaces, check_length, length_is_packed, packed_places};
 pub use writer::BlockWriter;
