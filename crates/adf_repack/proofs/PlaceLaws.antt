@@ -8,7 +8,8 @@ use Rattle.std.proofs.lemmas.List.Sums.{sum_by_more, sum_by-cons}
 use Rattle.adf_format.specs.Tree.{Node}
 use Rattle.adf_format.specs.Packed.{packed_table, packed_data, packed_nodes}
 use Rattle.adf_repack.specs.declared.places.NodeShape.{NodeShape}
-use Rattle.adf_repack.specs.Places.{table_room, data_room, room_of, shape_of, shapes_of, packed_room, LengthIsPacked, place_of}
+use Rattle.packed_laws.specs.PackedForm.{packed_room}
+use Rattle.adf_repack.specs.Places.{table_room, data_room, room_of, shape_of, shapes_of, LengthIsPacked, place_of}
 
 no_zero : (n : ℕ) → 0 < n → (n == 0) ≡ false
 no_zero n lt = grind (arith, nat_tests)

@@ -1,0 +1,2 @@
+pub mod PackedForm
+pub mod Laws
