@@ -3,3 +3,4 @@ pub mod Nodes
 pub mod Stays
 pub mod Labels
 pub mod Causes
+pub mod UndoLaws

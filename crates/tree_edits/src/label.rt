@@ -34,9 +34,11 @@ pub fn set_label<S: Space>(
 ) -> Result<(), AdfError>
     requires sound { S.is_sound space.old }
     requires near { AreNear core.now.wide core.now.rows.items }
-    ensures done { OnOk result (Both (Does (Edit.SetLabel node label.now) core.now core.now) (S.image space.old) (S.image space.new)) }
+    ensures done { OnOk result (Both (Does (Edit.SetLabel node label.now) core.now core.now)
+        (S.image space.old) (S.image space.new)) }
     ensures allowed { OnOk result (MaySetLabel core.now node label.now (S.image space.old)) }
-    ensures refused { IfErr result (λ e. IfSome (S.image space.old) (Refuses (Edit.SetLabel node label.now) core.now e)) }
+    ensures refused { IfErr result (λ e. IfSome (S.image space.old)
+        (Refuses (Edit.SetLabel node label.now) core.now e)) }
     ensures writes { AnswersWrite S.is_sound S.state S.waiting 2 (ReadsFew 4)
         (IsLabelCause core.now node label.now (S.image space.old)) space.old space.new result }
 {

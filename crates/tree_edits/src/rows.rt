@@ -1,10 +1,12 @@
 //! The table of the nodes by their serials.
 
-ghost use Rattle.std.specs.Prelude.{◌≡◌, ◌+◌, ◌^◌, ◌≤◌, length, IfSome, IsTrue};
+ghost use Rattle.std.specs.Prelude.{◌≡◌, ◌+◌, ◌^◌, ◌≤◌, ◌<◌, ◌++◌, ◌∷◌, [], length, slice_set, Some, IfSome, IsTrue, OnOk, OnErr};
+ghost use Rattle.std.specs.List.{AllByRecursion};
 ghost use Rattle.adf_format.specs.RecordFields.{node_length};
 ghost use Rattle.tree_edits.specs.Rows.{AreNear, row_of};
+ghost use Rattle.tree_edits.specs.Undo.{put_back};
 
-use std::alloc::Global;
+use std::alloc::{AllocError, Global};
 use std::marker::Model;
 
 /// Where a live node stands.
@@ -84,12 +86,70 @@ impl Rows {
         all_near(&self.items, wide)
     }
 
+    /// Adds the row of the next serial.
+    pub fn add(&mut self, row: Row) -> Result<(), AllocError>
+        ensures ok { OnOk result (self.new
+            ≡ record self.old { items = self.old.items ++ Some row ∷ [] }) }
+        ensures err { OnErr result (self.new ≡ self.old) }
+    {
+        self.items.push(Some(row))?;
+        Ok(())
+    }
+
+    /// Sets the row of a serial that was drawn: none where its node is deleted.
+    pub fn set(&mut self, serial: u64, row: Option<Row>) -> Result<(), AllocError>
+        requires { serial < length self.old.items }
+        ensures ok { OnOk result (self.new
+            ≡ record self.old { items = slice_set self.old.items serial row }) }
+        ensures err { OnErr result (self.new ≡ self.old) }
+    {
+        let at = serial as usize;
+        if at >= self.kept {
+            self.items[at] = row;
+            return Ok(());
+        }
+        let was = Undone {
+            serial,
+            row: self.items[at],
+        };
+        self.undone.push(was)?;
+        self.items[at] = row;
+        Ok(())
+    }
+
+    /// The rows are as they were accepted. It takes no memory.
+    pub fn undo(&mut self)
+        ensures { self.new ≡ record self.old { items = self.old.kept } }
+    {
+        put_back(&mut self.items, &mut self.undone);
+        self.items.truncate(self.kept);
+    }
+
     /// What the rows are now is accepted. It takes no memory.
     pub fn accept(&mut self)
         ensures { self.new ≡ record self.old { kept = self.old.items } }
     {
         self.undone.clear();
         self.kept = self.items.len();
+    }
+}
+
+// Puts back a row that was set.
+fn put_row(rows: &mut [Option<Row>], last: Undone)
+    requires { last.serial < length rows.old }
+    ensures { rows.new ≡ slice_set rows.old last.serial last.row }
+{
+    rows[last.serial as usize] = last.row;
+}
+
+// Puts back the rows that were set, the latest first.
+fn put_back(rows: &mut [Option<Row>], undone: &mut Vec<Undone>)
+    requires { AllByRecursion (λ u. u.serial < length rows.old) undone.old.items }
+    ensures rows { rows.new ≡ put_back rows.old undone.old.items }
+    ensures none { undone.new.items ≡ [] }
+{
+    while let Some(last) = undone.pop() {
+        put_row(rows, last);
     }
 }
 
