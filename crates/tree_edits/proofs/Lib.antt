@@ -3,4 +3,9 @@ pub mod Nodes
 pub mod Stays
 pub mod Labels
 pub mod Causes
+pub mod Siblings
+pub mod Parents
+pub mod Renames
+pub mod NameCauses
 pub mod UndoLaws
+pub mod NameWritten

@@ -2,3 +2,5 @@ pub mod Rows
 pub mod Undo
 pub mod Edits
 pub mod Causes
+pub mod Listed
+pub mod Names

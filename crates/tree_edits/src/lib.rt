@@ -6,9 +6,12 @@
 #![tactic(auto)]
 
 mod label;
+mod listed;
 mod memory;
+mod name;
 mod rows;
 
 pub use label::set_label;
 pub use memory::Core;
+pub use name::rename;
 pub use rows::{Row, Rows};
