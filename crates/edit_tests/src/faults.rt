@@ -5,10 +5,16 @@ use std::process::Abort;
 use std::test::Fail;
 
 /// Each edit that only reads and writes.
-const EDITS: [Step; 1] = [Step::Label {
-    node: 1,
-    label: b"CGNSBase_t",
-}];
+const EDITS: [Step; 2] = [
+    Step::Label {
+        node: 1,
+        label: b"CGNSBase_t",
+    },
+    Step::Name {
+        node: 2,
+        name: b"Zone",
+    },
+];
 
 // Each call of the space in turn fails: the answer is that fault, until no call is left to fail.
 fn each_call_may_fail(rt: &impl Abort, alloc: Global, memory: bool) -> Result<(), Fail> {

@@ -9,7 +9,7 @@ use file_heap::Heap;
 use std::alloc::Global;
 use std::process::Abort;
 use std::test::Fail;
-use tree_edits::{Core, Row, Rows, set_label};
+use tree_edits::{Core, Row, Rows, rename, set_label};
 
 /// An edit, or what is expected where it stands.
 #[derive(Clone, Copy)]
@@ -22,6 +22,16 @@ pub enum Step {
     NoLabel {
         node: u64,
         label: &'static [u8],
+        error: AdfError,
+    },
+    Name {
+        node: u64,
+        name: &'static [u8],
+    },
+    /// A name that is refused.
+    NoName {
+        node: u64,
+        name: &'static [u8],
         error: AdfError,
     },
     /// Bytes that are put into the space behind the edits' back.
@@ -103,6 +113,13 @@ fn labels(space: &mut Bytes, core: &Core, serial: u64, label: &[u8]) -> Result<(
     set_label(space, core, NodeId { file: 0, serial }, label)
 }
 
+fn names(space: &mut Bytes, core: &Core, serial: u64, name: &[u8]) -> Result<(), AdfError> {
+    if !core.rows.are_near(core.wide) {
+        return Err(NOT_CALLED);
+    }
+    rename(space, core, NodeId { file: 0, serial }, name)
+}
+
 // Whether an edit is refused with an error; where it wants memory or a read failed otherwise, that is the answer.
 fn is_refused(answer: Result<(), AdfError>, wanted: AdfError) -> Result<bool, AdfError> {
     match answer {
@@ -123,6 +140,11 @@ fn make(space: &mut Bytes, core: &Core, step: Step) -> Result<bool, AdfError> {
         Step::NoLabel { node, label, error } => {
             is_refused(labels(space, core, node, label), error)
         }
+        Step::Name { node, name } => {
+            names(space, core, node, name)?;
+            Ok(true)
+        }
+        Step::NoName { node, name, error } => is_refused(names(space, core, node, name), error),
         Step::Put { at, bytes } => Ok(space.put(at, bytes)),
         _ => Ok(true),
     }
