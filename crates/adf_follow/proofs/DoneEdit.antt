@@ -22,14 +22,14 @@ use Rattle.adf_follow.proofs.Looks.{told_in_on, passed_on}
 use Rattle.adf_follow.proofs.Steps.{at_node}
 use Rattle.adf_follow.proofs.Entered.{Passed, passes, passes_refused, live_opens}
 
-all_there : (number : ℕ) (nodes : List NodeId) → list_any (λ (node : NodeId). not (node.file == number)) nodes ≡ false → AllByRecursion (λ (node : NodeId). node.file ≡ number) nodes
+pub all_there : (number : ℕ) (nodes : List NodeId) → list_any (λ (node : NodeId). not (node.file == number)) nodes ≡ false → AllByRecursion (λ (node : NodeId). node.file ≡ number) nodes
 all_there number [] e = tt
 all_there number (node ∷ nodes) e =
     let parts = or_none (not (node.file == number)) (list_any (λ (n : NodeId). not (n.file == number)) nodes) e in
     (equal node.file number (not_false (node.file == number) parts.0), all_there number nodes parts.1)
 
 -- an edit names a node, and others behind it
-first_of : (edit : Edit) → (node : NodeId) × (rest : List NodeId) × (named_nodes edit ≡ node ∷ rest)
+pub first_of : (edit : Edit) → (node : NodeId) × (rest : List NodeId) × (named_nodes edit ≡ node ∷ rest)
 first_of (Create n wanted label) = (n, [], refl)
 first_of (Delete n) = (n, [], refl)
 first_of (Rename n wanted) = (n, [], refl)
@@ -41,7 +41,7 @@ first_of (PutPart n selection given) = (n, [], refl)
 first_of (Link n wanted file path) = (n, [], refl)
 
 -- what holds of all nodes of an edit holds of the first
-first_has : (P : NodeId → Type 0) (edit : Edit) → AllByRecursion P (named_nodes edit) → P (first_of edit).0
+pub first_has : (P : NodeId → Type 0) (edit : Edit) → AllByRecursion P (named_nodes edit) → P (first_of edit).0
 first_has P edit all = (subst (AllByRecursion P) (first_of edit).2 all).0
 
 -- and of the one that it follows
@@ -91,6 +91,16 @@ open_there files mid edit there number same all near =
     subst (λ (f : Files). IsSome (open_at f number)) (sym same) (subst (λ n. IsSome (open_at files n)) (first_has (λ (n : NodeId). n.file ≡ number) reached (all_there number (named_nodes reached) near))
     (first_has (λ (n : NodeId). IsSome (open_at files n.file)) reached all))
 
+-- the edit of the node that its links lead to
+pub leads_there : (files : Files) (edit : Edit) (there : Option NodeId) → led_to files edit ≡ Ok there → resolve files edit ≡ Ok (with_there edit there)
+leads_there files edit there e = by_followed (followed edit) e
+  where
+    by_followed : (o : Option NodeId) → led_from files o ≡ Ok there → resolved files edit o ≡ Ok (with_there edit there)
+    by_followed None e = ap (λ t. Ok (with_there edit t)) (same_Ok e)
+    by_followed (Some node) e =
+        let r = done (reach files node) (λ there. Ok (Some there)) there e in
+        ap (λ r. and_then r (λ there. Ok (with_followed edit there))) r.1 ∙ ap (λ t. Ok (with_there edit t)) (same_Ok r.2)
+
 module _ (files : Files) (before : Devices) (edit : Edit) where
   -- ---- where it leads
 
@@ -109,15 +119,6 @@ module _ (files : Files) (before : Devices) (edit : Edit) where
   leads_nowhere now node error e h = passed_on (IsToldBy files before edit) (IsToldFrom files before node) (HasWalkCause LinkMissing files before now) (HasWalkCause LinkMissing files before now) as_is as_is (reach files node) (led_to files edit) error
       (λ cause. cause) (from_told node e) (λ told failed. ap (led_from files) e ∙ ap (λ r. and_then r (λ (there : NodeId). Ok (Some there))) failed) h
 
-  pub leads_there : (there : Option NodeId) → led_to files edit ≡ Ok there → resolve files edit ≡ Ok (with_there edit there)
-  leads_there there e = by_followed (followed edit) e
-    where
-      by_followed : (o : Option NodeId) → led_from files o ≡ Ok there → resolved files edit o ≡ Ok (with_there edit there)
-      by_followed None e = ap (λ t. Ok (with_there edit t)) (same_Ok e)
-      by_followed (Some node) e =
-          let r = done (reach files node) (λ there. Ok (Some there)) there e in
-          ap (λ r. and_then r (λ there. Ok (with_followed edit there))) r.1 ∙ ap (λ t. Ok (with_there edit t)) (same_Ok r.2)
-
   -- an edit that meets no link is one of its own nodes
   itself : IsEditTold files before edit → (there : Option NodeId) → led_to files edit ≡ Ok there → with_there edit there ≡ edit
   itself one there e = by_followed (followed edit) refl e
@@ -130,7 +131,7 @@ module _ (files : Files) (before : Devices) (edit : Edit) where
           ap (with_there edit) (sym same) ∙ followed_same edit node is
 
   -- the file of the nodes that it reaches is told
-  told_there : (there : Option NodeId) (number : ℕ) → led_to files edit ≡ Ok there → StandsIn number (with_there edit there) → IsToldBy files before edit → IsToldIn files before number
+  pub told_there : (there : Option NodeId) (number : ℕ) → led_to files edit ≡ Ok there → StandsIn number (with_there edit there) → IsToldBy files before edit → IsToldIn files before number
   told_there there number e stands told = elim told [
     | inl all ↦ all number
     | inr one ↦
@@ -149,7 +150,7 @@ module _ (files : Files) (before : Devices) (edit : Edit) where
       record {
         reached = with_there edit there;
         entered = passes_refused (tests_at_entry files (named_nodes edit)) entry;
-        leads = leads_there there (led told);
+        leads = leads_there files edit there (led told);
         own = own;
         stands = stands;
         stepped = subst (λ w. IsStepped files after w work number (with_there edit there) serial) still (subst (λ f. IsStepped f after waiting work number (with_there edit there) serial) leaves.files_stay

@@ -105,7 +105,7 @@ module _ (files : Files) (nodes : List NodeId) where
     ];
   }
 
-  files_pass : Passed (tests_at_entry files nodes) → first_refusal (tests_of_files files nodes) ≡ None
+  pub files_pass : Passed (tests_at_entry files nodes) → first_refusal (tests_of_files files nodes) ≡ None
   files_pass e = let none = passes (tests_at_entry files nodes) e in none_refuses (tests_of_files files nodes) (none.0, (none.1.0, (none.1.1.0, tt)))
 
   -- and so does what comes behind it

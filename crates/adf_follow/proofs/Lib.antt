@@ -10,3 +10,6 @@ pub mod DoneEdit
 pub mod UnderWay
 pub mod RunLaws
 pub mod StandLaws
+pub mod RefusedEdit
+pub mod DoneAmong
+pub mod FileSteps

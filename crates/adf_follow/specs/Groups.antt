@@ -1,11 +1,12 @@
 -- A group of edits under way: what waits in open files, and what one edit more makes of it.
-use Rattle.std.specs.Prelude.{◌≡◌, ◌⊎◌, ℕ, ◌+◌, ◌≤◌, false, IsSome, List, [], ◌∷◌, ◌++◌, take, map, Option, Some, None, Result, Ok}
+use Rattle.std.specs.Prelude.{◌≡◌, ◌≢◌, ◌⊎◌, ℕ, ◌+◌, ◌≤◌, IfSome, IsTrue, is_some, Err, false, IsSome, List, [], ◌∷◌, ◌++◌, take, map, Option, Some, None, Result, Ok}
 use Rattle.std.specs.List.{AllByRecursion}
 use Rattle.adf_format.specs.Tree.{Tree}
 use Rattle.adf_format.specs.Placement.{Placement}
 use Rattle.adf_format.specs.LaysOut.{LaysOut}
 use Rattle.adf_format.specs.HeapRule.{place_edit}
 use Rattle.adf_model.specs.declared.error.AdfError.{AdfError}
+use Rattle.adf_model.specs.declared.error.AdfError.TheVariants.{Memory, ReadFault, Full}
 use Rattle.adf_model.specs.declared.tree.Edit.{Edit}
 use Rattle.adf_model.specs.declared.tree.NodeId.{NodeId}
 use Rattle.adf_model.specs.Tests.{and_then, first_refusal}
@@ -14,12 +15,13 @@ use Rattle.adf_model.specs.Need.{cost}
 use Rattle.adf_model.specs.Placing.{placed_as, place_group, chunk_number, group_cost}
 use Rattle.adf_model.specs.Untouched.{KeepsRest, KeepsTail}
 use Rattle.adf_model.specs.Torn.{TornGroup}
-use Rattle.adf_model.specs.Slots.{Open, Files, Device, Devices, open_at, with_slot, device_at, names_there, standings, IsTold}
+use Rattle.adf_model.specs.Slots.{Open, Standing, Files, Device, Devices, AreTrees, slot_at, standing_of, open_at, with_slot, device_at, names_there, standings, IsTold}
 use Rattle.adf_model.specs.Slots.Slot.{Live}
 use Rattle.adf_model.specs.Follow.{link_text_at, reach}
 use Rattle.adf_model.specs.OneFile.{StandsIn}
-use Rattle.adf_model.specs.Calls.{Group, tests_at_entry, resolve, edit_group}
-use Rattle.adf_model.specs.Steps.{OthersOnlyRead, OthersStayPlaced, IsFileRefusal}
+use Rattle.adf_model.specs.Calls.{Group, tests_of_files, tests_at_entry, resolve, group_step, edit_group}
+use Rattle.adf_model.specs.Steps.{OthersOnlyRead, OthersStayPlaced, HasCauseOf, own_file, IsFileRefusal}
+use Rattle.adf_model.specs.Causes.{EntersFiles, may_refuse_edit}
 use Rattle.tree_laws.specs.Groups.{tree_left}
 use Rattle.adf_follow.specs.Looking.{IsToldIn}
 
@@ -131,6 +133,56 @@ pub record IsDone (before after : Files) (was work : ℕ → FileWork) (group : 
   pub own : (group ≡ None) ⊎ (group ≡ Some number)
   pub stands : StandsIn number reached
   pub stepped : IsStepped before after was work number reached serial
+
+-- an edit that is done, also where files are not told: its own files are open, and its file is the group's, may be edited, and is the one that it names where it follows no link there; what waits in other files stays
+pub record IsDoneAnyway (files : Files) (was work : ℕ → FileWork) (group : Option ℕ) (edit : Edit) (number : ℕ) : Type 0 where
+  pub entered : first_refusal (tests_of_files files (named_nodes edit)) ≡ None
+  pub own : (group ≡ None) ⊎ (group ≡ Some number)
+  pub editing : standing_of (slot_at files number) ≡ Standing.Editing
+  pub named : IfSome (own_file (edit ∷ [])) (λ own. number ≡ own)
+  pub others : (n : ℕ) → n ≢ number → work n ≡ was n
+
+-- ---- why an edit is refused
+
+-- a take of the edit is refused, and it is refused otherwise nowhere
+pub record IsFullAt (files : Files) (was : ℕ → FileWork) (group : Option ℕ) (edit : Edit) (asked end : ℕ) : Type 0 where
+  pub number : ℕ
+  pub reached : Edit
+  pub opened : Open
+  pub tree : Tree
+  pub entered : first_refusal (tests_at_entry files (named_nodes edit)) ≡ None
+  pub leads : resolve files edit ≡ Ok reached
+  pub own : (group ≡ None) ⊎ (group ≡ Some number)
+  pub stands : StandsIn number reached
+  pub here : open_at files number ≡ Some opened
+  pub made : file_step opened.writable opened.tree reached ≡ Ok tree
+  pub over : place_edit opened.limit opened.tree tree (placed_as reached) (was number).placement ≡ Err (record { asked = asked; end = end })
+
+-- want of memory; a failed read, where no refusal at entry comes first; a take that the heap rule refuses; else the refusal of the trees
+abbrev pub IsEditRefusal : Files → (ℕ → FileWork) → Option ℕ → Edit → AdfError → Type 0
+IsEditRefusal files was group edit Memory = Unit {0}
+IsEditRefusal files was group edit ReadFault = first_refusal (tests_at_entry files (named_nodes edit)) ≡ None
+IsEditRefusal files was group edit (Full asked end) = IsFullAt files was group edit asked end
+IsEditRefusal files was group edit error = (g : Group) → g.files ≡ files → g.file ≡ group → AreTrees files → group_step g edit ≡ Err error
+
+-- a refusal also where files are not told: it enters its files, has its cause, and is of its kind
+pub record IsRefusedAnyway (files : Files) (before now : Devices) (edit : Edit) (error : AdfError) : Type 0 where
+  pub entry : EntersFiles {A = Unit {0}} files (named_nodes edit) (is_some (followed edit)) (Err error)
+  pub cause : HasCauseOf files before now error
+  pub kind : IsTrue (may_refuse_edit edit error)
+
+-- what waited in the file of the edit is dropped
+pub record IsUndone (group : Option ℕ) (files : Files) (was : Pending) (now : Devices) (pending : Pending) (after : Files) : Type 0 where
+  pub number : ℕ
+  pub own : (group ≡ None) ⊎ (group ≡ Some number)
+  pub left : after ≡ with_slot files number (slot_at was.kept number)
+  pub kept : pending.kept ≡ was.kept
+  pub rest : pending.work number ≡ at_rest (device_at now number)
+  pub others : (n : ℕ) → n ≢ number → pending.work n ≡ was.work n
+
+-- a refused edit leaves all as it was, or drops what waited
+abbrev pub LeavesUndone : Option ℕ → Files → Pending → Devices → Pending → Files → Type 0
+LeavesUndone group files was now pending after = ((after ≡ files) × (pending ≡ was)) ⊎ IsUndone group files was now pending after
 
 -- ---- a group
 

@@ -1,5 +1,5 @@
 -- Looks at open files: where these are told, what is found, and why a look fails.
-use Rattle.std.specs.Prelude.{◌≡◌, ◌⊎◌, ℕ, true, None, IsTrue, Result, Ok, Err}
+use Rattle.std.specs.Prelude.{◌≡◌, ◌⊎◌, ℕ, true, false, None, IsTrue, Result, Ok, Err}
 use Rattle.adf_format.specs.RuleNumbers.{IsRule}
 use Rattle.adf_model.specs.declared.error.AdfError.{AdfError}
 use Rattle.adf_model.specs.declared.error.AdfError.TheVariants.{Memory, ReadFault, NotOpen, NoSuchFile, LinkMissing, LinkChain, Layout, OtherFile}
@@ -10,7 +10,7 @@ use Rattle.adf_model.specs.Counts.{Rose}
 use Rattle.adf_model.specs.Slots.{Files, Devices, slot_at, device_at, is_open, IsToldAt, IsTold}
 use Rattle.adf_model.specs.Follow.{Spot, link_text_at}
 use Rattle.adf_model.specs.Answers.{asked_node, goes_through_links, may_refuse}
-use Rattle.adf_model.specs.Steps.{SomeOpenFault, HasReadFault}
+use Rattle.adf_model.specs.Steps.{SomeOpenFault, HasReadFault, is_foreign_to_edits}
 use Rattle.adf_model.specs.Causes.{SomeBroken, may_refuse_edit}
 use Rattle.adf_model.specs.Runs.{MeetsNoLink}
 use Rattle.adf_follow.specs.declared.walks.Reached.{Reached}
@@ -100,7 +100,7 @@ HasStepCause files edit number before now NoSuchFile = ⊥
 HasStepCause files edit number before now OtherFile = ⊥
 HasStepCause files edit number before now LinkMissing = ⊥
 HasStepCause files edit number before now LinkChain = ⊥
-HasStepCause files edit number before now error = IsTrue (may_refuse_edit edit error)
+HasStepCause files edit number before now error = (is_foreign_to_edits error ≡ false) × IsTrue (may_refuse_edit edit error)
 
 -- ---- the looks
 

@@ -4,7 +4,7 @@ ghost use Rattle.std.specs.Prelude.{◌≡◌, ◌≢◌, ℕ, Ok, Some, IfOk, I
 ghost use Rattle.adf_model.specs.declared.error.AdfError.{AdfError};
 ghost use Rattle.adf_model.specs.Edits.{named_nodes};
 ghost use Rattle.adf_model.specs.Calls.{tests_at_entry};
-ghost use Rattle.adf_model.specs.Slots.{Open, Slot, open_at, slot_at, with_slot, device_at};
+ghost use Rattle.adf_model.specs.Slots.{Open, Slot, Standing, standing_of, open_at, slot_at, with_slot, device_at};
 ghost use Rattle.adf_model.specs.Steps.{OthersOnlyRead, OthersStayPlaced, WriteFailed};
 ghost use Rattle.adf_model.specs.Tests.{checked};
 ghost use Rattle.adf_follow.specs.Groups.{at_rest, OnlyWaits, with_there, IsStepped, IsStepRefusal, IsCommitted, IsTornCommit};
@@ -38,6 +38,8 @@ pub trait EditedFiles: OpenFiles {
             (Self.devices self.new) (Self.files self.new) }
         ensures others { (n : ℕ) → n ≢ number → (Self.pending self.new).work n
             ≡ (Self.pending self.old).work n }
+        ensures editing { OnOk result
+            (standing_of (slot_at (Self.files self.old) number) ≡ Standing.Editing) }
         ensures done { IfOk result (λ serial. IsToldIn (Self.files self.old) (Self.devices self.old)
             number → IsStepped (Self.files self.old) (Self.files self.new)
             (Self.pending self.old).work (Self.pending self.new).work number

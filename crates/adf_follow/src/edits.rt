@@ -1,12 +1,13 @@
 //! One edit of a group, through links.
 
-ghost use Rattle.std.specs.Prelude.{◌≡◌, ◌==◌, not, IfOk};
+ghost use Rattle.std.specs.Prelude.{◌≡◌, ◌==◌, ℕ, true, not, Some, is_some, IsSome, unwrap_or, IfOk, IfErr, OnErr};
 ghost use Rattle.std.specs.List.{list_any};
 ghost use Rattle.adf_model.specs.Calls.{file_of};
 ghost use Rattle.adf_model.specs.Edits.{named_nodes, followed};
+ghost use Rattle.adf_model.specs.Slots.{open_at};
 ghost use Rattle.adf_model.specs.Causes.{OnlyAsks};
 ghost use Rattle.adf_model.specs.declared.error.AdfError.{AdfError};
-ghost use Rattle.adf_follow.specs.Groups.{with_there, or_there, led_to, OnlyWaits, AreOpen, IsToldBy, IsDone};
+ghost use Rattle.adf_follow.specs.Groups.{with_there, or_there, led_to, OnlyWaits, AreOpen, IsToldBy, IsDone, IsDoneAnyway, IsEditRefusal, IsRefusedAnyway, LeavesUndone};
 ghost use Rattle.adf_follow.specs.Looking.{IsWalked, as_is};
 
 use crate::edited::EditedFiles;
@@ -26,14 +27,24 @@ pub fn edit_one<F: EditedFiles>(
     group: Option<u32>,
     edit: &Edit,
 ) -> Result<(u32, Option<u64>), AdfError>
-    requires { F.is_ready files.old }
+    requires ready { F.is_ready files.old }
+    requires own { (n : ℕ) → group ≡ Some n → IsSome (open_at (F.files files.old) n) }
     ensures ready { F.is_ready files.new }
     ensures kept { (F.pending files.new).kept ≡ (F.pending files.old).kept }
     ensures waits { OnlyWaits (F.files files.old) (F.devices files.old) (F.devices files.new)
         (F.files files.new) }
+    ensures anyway { IfOk result (λ done. IsDoneAnyway (F.files files.old)
+        (F.pending files.old).work (F.pending files.new).work group edit.now done.0) }
     ensures done { IfOk result (λ done. IsToldBy (F.files files.old) (F.devices files.old) edit.now
         → IsDone (F.files files.old) (F.files files.new) (F.pending files.old).work
         (F.pending files.new).work group edit.now done.0 done.1) }
+    ensures refused { IfErr result (λ error. IsToldBy (F.files files.old) (F.devices files.old)
+        edit.now → IsEditRefusal (F.files files.old) (F.pending files.old).work group edit.now
+        error) }
+    ensures cause { IfErr result (IsRefusedAnyway (F.files files.old) (F.devices files.old)
+        (F.devices files.new) edit.now) }
+    ensures undone { OnErr result (LeavesUndone group (F.files files.old) (F.pending files.old)
+        (F.devices files.new) (F.pending files.new) (F.files files.new)) }
 {
     match files.enter(edit) {
         Ok(()) => {}
@@ -43,10 +54,7 @@ pub fn edit_one<F: EditedFiles>(
         Ok(there) => there,
         Err(error) => return Err(error),
     };
-    let number = match group {
-        Some(number) => number,
-        None => first_file(edit, there),
-    };
+    let number = group_file(group, edit, there);
     if is_elsewhere(edit, there, number) {
         return Err(AdfError::OtherFile);
     }
@@ -63,6 +71,7 @@ fn lead<F: OpenFiles>(alloc: Global, files: &mut F, edit: &Edit) -> Result<Optio
     ensures pending { F.pending files.new ≡ F.pending files.old }
     ensures leaves { OnlyAsks (F.files files.old) (F.devices files.old) (F.devices files.new)
         (F.files files.new) }
+    ensures follows { OnErr result (is_some (followed edit.now) ≡ true) }
     ensures opens { AreOpen (F.files files.old) (named_nodes edit.now) → IfOk result (λ there.
         AreOpen (F.files files.old) (named_nodes (with_there edit.now there))) }
     ensures found { IsWalked (IsToldBy (F.files files.old) (F.devices files.old) edit.now)
@@ -90,6 +99,16 @@ fn followed_node(edit: &Edit) -> Option<NodeId>
         | Edit::PutAll { node, .. }
         | Edit::PutPart { node, .. } => Some(*node),
         Edit::Delete { .. } | Edit::Rename { .. } => None,
+    }
+}
+
+// The file of a group, or that of the first node of its first edit.
+fn group_file(group: Option<u32>, edit: &Edit, there: Option<NodeId>) -> u32
+    ensures { result ≡ unwrap_or group (file_of (named_nodes (with_there edit.now there))) }
+{
+    match group {
+        Some(number) => number,
+        None => first_file(edit, there),
     }
 }
 

@@ -5,6 +5,7 @@
 mod asks;
 mod edited;
 mod edits;
+pub mod file_groups;
 pub mod groups;
 mod lookups;
 mod parts;

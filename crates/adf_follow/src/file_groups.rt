@@ -1,0 +1,25 @@
+//! A group of edits on one open file by itself, among many files. No function here does anything: its
+//! contract is the law.
+
+ghost use Rattle.std.specs.Prelude.{List, Some, Result};
+ghost use Rattle.adf_model.specs.declared.error.EditError.{EditError};
+ghost use Rattle.adf_model.specs.declared.tree.Edit.{Edit};
+ghost use Rattle.adf_model.specs.declared.tree.NodeId.{NodeId};
+ghost use Rattle.adf_model.specs.Slots.{Slot, Files, Devices, AreTrees, device_at, with_slot};
+ghost use Rattle.adf_model.specs.Slots.Slot.{Live};
+ghost use Rattle.adf_model.specs.Steps.{OthersOnlyRead, OthersStayPlaced, IsLaidOutAt, Changed, Step};
+ghost use Rattle.adf_model.specs.Runs.{EditsTold};
+ghost use Rattle.adf_model.specs.FileGroup.{IsFileGroup};
+
+/// What one open file may answer to a group of edits of its own nodes that meets no link, and then leave
+/// of itself and its device, is a step of the model over many files, where the other devices are not
+/// written and their parts stay.
+pub fn file_groups_are_steps()
+    ensures { (files : Files) (before now : Devices) (edits : List Edit)
+        (result : Result (List NodeId) EditError) (slot : Slot)
+        (told : EditsTold files before edits) → AreTrees files → IsLaidOutAt (Live told.opened)
+        (device_at before told.number) → OthersOnlyRead (Some told.number) before now
+        → OthersStayPlaced (Some told.number) before now → IsFileGroup (Live told.opened)
+        (device_at before told.number) edits result (device_at now told.number) slot → Step files
+        before (Changed edits result) now (with_slot files told.number slot) }
+{}
