@@ -1,5 +1,5 @@
 -- Edits of one open file that are done on its tree are done among many files.
-use Rattle.std.proofs.Common.{◌≡◌, ◌⊎◌, inl, inr, ℕ, zero, suc, true, List, [], ◌∷◌, ◌++◌, refl, sym, ◌∙◌, ap, subst, append_assoc, append-nil}
+use Rattle.std.proofs.Common.{◌≡◌, ◌⊎◌, inl, inr, ℕ, zero, suc, ◌+◌, true, List, [], ◌∷◌, ◌++◌, refl, sym, ◌∙◌, ap, subst, append_assoc, append-nil, arith}
 use Rattle.std.specs.Prelude.{Option, Some, None, slice_get, take, Result, Ok, Err}
 use Rattle.std.specs.List.{AllByRecursion}
 use Rattle.adf_format.specs.Tree.{Tree}
@@ -8,11 +8,13 @@ use Rattle.adf_model.specs.declared.error.EditError.{EditError}
 use Rattle.adf_model.specs.declared.tree.Edit.{Edit}
 use Rattle.adf_model.specs.Tests.{and_then}
 use Rattle.adf_model.specs.Edits.{Work, at_edit, apply, created_by, reach_tests, file_step, file_group_from}
+use Rattle.adf_model.specs.Need.{need}
 use Rattle.adf_model.specs.FileGroup.{done_then, done_by}
 use Rattle.adf_model.specs.Slots.{Open, Files, open_at, with_slot}
 use Rattle.adf_model.specs.Slots.Slot.{Live}
 use Rattle.adf_model.specs.OneFile.{StandsIn}
 use Rattle.adf_model.specs.Calls.{Group, group_after, group_from}
+use Rattle.tree_laws.specs.Groups.{group_need}
 use Rattle.adf_model.proofs.Basics.{not_Err, same_Ok, same_Some, not_there, not_false, passed}
 use Rattle.adf_model.proofs.Answering.LayoutLemmas.{live_slot}
 use Rattle.adf_model.proofs.Following.StepTests.{step_tests}
@@ -57,6 +59,7 @@ pub record DoneAmong (number from : ℕ) (group : Group) (opened : Open) (edits 
   pub left : last.files ≡ with_slot group.files number (Live (record opened { tree = work.tree }))
   pub made : last.created ≡ work.created
   pub done : last.done ≡ group.done ++ done_by opened.writable opened.tree edits
+  pub needed : last.needed ≡ group.needed + group_need opened.tree (done_by opened.writable opened.tree edits)
   pub file : last.file ≡ file_after number group.file edits
   pub may : (edits ≡ []) ⊎ (opened.writable ≡ true)
 
@@ -76,6 +79,7 @@ done_among number from group opened [] work here own stand e = record {
   left = sym (same_slot group.files number opened here) ∙ ap (λ (w : Work). with_slot group.files number (Live (record opened { tree = w.tree }))) (same_Ok e);
   made = ap (λ (w : Work). w.created) (same_Ok e);
   done = sym (append-nil group.done);
+  needed = omega arith;
   file = refl;
   may = inl refl;
 }
@@ -91,6 +95,11 @@ done_among number from group opened (edit ∷ edits) work here own stand e =
       made = rest.made;
       done = rest.done ∙ append_assoc group.done ((edit, one.0) ∷ []) (done_by opened.writable one.0 edits)
           ∙ sym (ap (λ r. group.done ++ done_then r (λ (after : Tree). (edit, after) ∷ done_by opened.writable after edits)) one.1);
+      needed = (
+          let later = rest.needed in
+          let this : group_need opened.tree (done_by opened.writable opened.tree (edit ∷ edits)) ≡ need opened.tree edit + group_need one.0 (done_by opened.writable one.0 edits) =
+          ap (λ r. group_need opened.tree (done_then r (λ (after : Tree). (edit, after) ∷ done_by opened.writable after edits))) one.1 in
+          omega (arith, later, this));
       file = rest.file ∙ after_some number edits;
       may = inr (may_edit opened.writable opened.tree one.0 edit one.1);
     }

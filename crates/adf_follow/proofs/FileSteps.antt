@@ -1,10 +1,11 @@
 -- A group of edits on one open file by itself is a step of the model over many files.
-use Rattle.std.proofs.Common.{◌≡◌, ◌≢◌, ◌⊎◌, inl, inr, ℕ, suc, ◌+◌, ◌≤◌, Bool, true, false, not, List, [], ◌∷◌, ◌++◌, take, refl, sym, ◌∙◌, ap, subst, arith}
-use Rattle.std.specs.Prelude.{Option, Some, None, IsSome, IfSome, IfOk, if◌then◌else◌, Result, Ok, Err}
+use Rattle.std.proofs.Common.{◌≡◌, ◌≢◌, ◌⊎◌, inl, inr, ℕ, suc, ◌+◌, ◌<◌, ◌≤◌, Bool, true, false, not, List, [], ◌∷◌, ◌++◌, length, take, ◌*◌, refl, sym, ◌∙◌, ap, subst, arith}
+use Rattle.std.specs.Prelude.{Option, Some, None, IsSome, is_some, IfSome, IfOk, if◌then◌else◌, Result, Ok, Err}
 use Rattle.std.specs.List.{AllByRecursion, list_any}
 use Rattle.std.proofs.lemmas.Bool.Decides.{eqb_tells}
+use Rattle.std.proofs.lemmas.List.{length-map}
 use Rattle.std.proofs.lemmas.Option.{slice_get_within}
-use Rattle.adf_format.specs.Tree.{Tree, is_live}
+use Rattle.adf_format.specs.Tree.{Tree, IsTree, is_live}
 use Rattle.adf_format.specs.Placement.{Placement}
 use Rattle.adf_format.specs.HeapRule.{place_edit, ◌>>=◌}
 use Rattle.adf_model.specs.declared.error.AdfError.{AdfError}
@@ -15,28 +16,32 @@ use Rattle.adf_model.specs.declared.tree.Edit.TheVariants.{Create, Delete, Renam
 use Rattle.adf_model.specs.declared.tree.NodeId.{NodeId}
 use Rattle.adf_model.specs.Tests.{checked, and_then, first_refusal}
 use Rattle.adf_model.specs.Edits.{Work, named_nodes, file_tests_at_entry, file_step, file_group}
+use Rattle.adf_model.specs.Need.{need}
 use Rattle.adf_model.specs.Placing.{placed_as, place_group, group_cost}
 use Rattle.adf_model.specs.Untouched.{KeepsRest, KeepsTail}
 use Rattle.adf_model.specs.Torn.{TornGroup}
 use Rattle.adf_model.specs.FileGroup.{done_by, FileStops, FileBreaks, FileEdited, IsFileGroup, IsFileGroupRefusal}
-use Rattle.adf_model.specs.Slots.{Open, Slot, Standing, standing_of, Files, Device, Devices, AreTrees, slot_at, is_open, open_at, with_slot, device_at}
+use Rattle.adf_model.specs.Slots.{Open, Slot, Standing, standing_of, Files, Device, Devices, slot_at, is_open, open_at, with_slot, device_at, recorded_end}
 use Rattle.adf_model.specs.Slots.Slot.{Live}
 use Rattle.adf_model.specs.OneFile.{StandsIn}
 use Rattle.adf_model.specs.Calls.{Group, group_of, group_after, group_step, edit_group, tests_at_entry}
-use Rattle.adf_model.specs.Steps.{OnlyRead, OthersOnlyRead, OthersStayPlaced, own_file, MayEdit, StopsAt, RoomStops, Refused, IsGroupRefusal, IsPlacedRefusal, Edited, CommitStops, OfGroup, HaveRoom, IsPlaced, IsWithinCost, IsOverLimit, LeavesUntouched, IsLaidOutAt, Changed, Step}
+use Rattle.adf_model.specs.Steps.{OnlyRead, OthersOnlyRead, OthersStayPlaced, own_file, MayEdit, StopsAt, RoomStops, Refused, IsGroupRefusal, IsPlacedRefusal, Edited, CommitStops, OfGroup, HaveRoom, IsPlaced, IsWithinCost, IsOverLimit, LeavesUntouched, IsLaidOut, IsLaidOutAt, Changed, Step}
 use Rattle.adf_model.specs.Runs.{EditsTold}
-use Rattle.adf_model.proofs.Basics.{not_there, same_Some, same_Ok}
-use Rattle.adf_model.proofs.Answering.LayoutLemmas.{live_slot}
+use Rattle.adf_model.proofs.Basics.{not_true, not_there, same_Some, same_Ok}
+use Rattle.adf_model.proofs.Answering.LayoutLemmas.{live_slot, end_of_open}
 use Rattle.adf_model.proofs.Following.OneFileLaws.{in_its_file, opened_now, entry_tests}
-use Rattle.tree_laws.specs.Groups.{tree_left}
-use Rattle.tree_laws.proofs.Groups.GroupsGrow.{group_is_done, placement_grows}
-use Rattle.tree_laws.proofs.Groups.GroupLoop.{group_stops}
+use Rattle.tree_laws.specs.Groups.{tree_left, group_need}
+use Rattle.tree_laws.proofs.Groups.GroupsGrow.{group_is_done, done_grow, firsts_grow, placement_grows, need_grows}
+use Rattle.tree_laws.proofs.Groups.GroupLoop.{group_stops, group_is_full}
 use Rattle.tree_laws.proofs.Groups.FileLoop.{files_go_on, files_stop}
-use Rattle.tree_laws.proofs.Groups.FileGroups.{takes_stop}
 use Rattle.adf_follow.proofs.Entered.{passes_refused}
 use Rattle.adf_follow.proofs.DoneAmong.{all_get, all_take, same_slot, file_after, DoneAmong, done_among}
 
-module _ (files : Files) (before now : Devices) (edits : List Edit) (t : EditsTold files before edits) (trees : AreTrees files) (laid : IsLaidOutAt (Live t.opened) (device_at before t.number))
+laid_many : (opened : Open) (device : Device) (held : Option (List ℕ)) → IsSome held → IsLaidOut (Live opened) device held → length device.placement.parts ≡ length opened.tree.nodes
+laid_many opened device None some laid = absurd (not_true some)
+laid_many opened device (Some image) some laid = sym (length-map device.placement.parts is_some) ∙ ap (λ (bs : List Bool). length bs) laid.same_nodes ∙ length-map opened.tree.nodes is_some
+
+module _ (files : Files) (before now : Devices) (edits : List Edit) (t : EditsTold files before edits) (tree : IsTree t.opened.tree) (laid : IsLaidOutAt (Live t.opened) (device_at before t.number))
     (others : OthersOnlyRead (Some t.number) before now) (others_placed : OthersStayPlaced (Some t.number) before now) where
   abbrev number : ℕ
   number = t.number
@@ -277,8 +282,31 @@ module _ (files : Files) (before now : Devices) (edits : List Edit) (t : EditsTo
           ∙ ap (λ tree. place_edit opened.limit tree after (placed_as h.edit) h.so_far.placement) left
           ∙ over
 
+      -- the edits up to it need more than is left
+      needs : opened.limit * 4096 < recorded_end old_device + 1 + (first.last.needed + need done.tree h.edit)
+      needs =
+          let p = old_device.placement in
+          let bound = (group_is_full opened.limit opened.writable edits at h.edit opened.tree p done after h.so_far.placement (record { asked = asked; end = end }) tree (laid_many opened old_device old_device.held t.told laid) h.reached h.so_far.made h.so_far.placed made over).1 in
+          let more : group_need opened.tree (done_by opened.writable opened.tree (take (suc at) edits)) ≡ group_need opened.tree (done_by opened.writable opened.tree (take at edits)) + need done.tree h.edit =
+          ap (λ es. group_need opened.tree (done_by opened.writable opened.tree es)) (firsts_grow edits at h.edit h.reached)
+          ∙ ap (group_need opened.tree) (done_grow opened.writable opened.tree after (take at edits) h.edit done h.so_far.made made)
+          ∙ need_grows opened.tree (done_by opened.writable opened.tree (take at edits)) (h.edit, after)
+          ∙ ap (λ left. group_need opened.tree (done_by opened.writable opened.tree (take at edits)) + need left h.edit) (group_is_done opened.writable opened.tree (take at edits) done h.so_far.made).0 in
+          let so_far = first.needed in
+          let end : recorded_end old_device ≡ p.heap.end = end_of_open opened old_device t.told laid in
+          omega (arith, bound, more, so_far, end)
+
       room_stops : RoomStops files before edits at
-      room_stops = takes_stop files before edits at number (group_after first.last number in_work h.edit after) opened (record { asked = asked; end = end }) trees (slice_get_within edits at h.edit h.reached) through refl t.live t.told laid full
+      room_stops = record {
+        exists = slice_get_within edits at h.edit h.reached;
+        group = group_after first.last number in_work h.edit after;
+        through = through;
+        number = number;
+        file = refl;
+        opened = opened;
+        live = t.live;
+        over = needs;
+      }
 
       over_limit : OfGroup files (take (at + 1) edits) (IsOverLimit before asked end)
       over_limit = subst (λ r. IfOk r (λ (g : Group). IfSome g.file (λ number. IfSome (open_at files number) (λ opened. IsOverLimit before asked end number opened g)))) (sym through)
@@ -308,7 +336,7 @@ module _ (files : Files) (before now : Devices) (edits : List Edit) (t : EditsTo
   group_step_is (Ok created) slot h = done_step created slot h
   group_step_is (Err refusal) slot h = let step = refused_step refusal.at refusal.error slot h in (step.0, step.1, tt)
 
-pub group_is_step : (files : Files) (before now : Devices) (edits : List Edit) (result : Result (List NodeId) EditError) (slot : Slot) (told : EditsTold files before edits) → AreTrees files → IsLaidOutAt (Live told.opened) (device_at before told.number)
+pub group_is_step : (files : Files) (before now : Devices) (edits : List Edit) (result : Result (List NodeId) EditError) (slot : Slot) (told : EditsTold files before edits) → IsTree told.opened.tree → IsLaidOutAt (Live told.opened) (device_at before told.number)
     → OthersOnlyRead (Some told.number) before now → OthersStayPlaced (Some told.number) before now → IsFileGroup (Live told.opened) (device_at before told.number) edits result (device_at now told.number) slot
     → Step files before (Changed edits result) now (with_slot files told.number slot)
-group_is_step files before now edits result slot told trees laid others placed h = group_step_is files before now edits told trees laid others placed result slot h
+group_is_step files before now edits result slot told tree laid others placed h = group_step_is files before now edits told tree laid others placed result slot h

@@ -2,10 +2,11 @@
 //! contract is the law.
 
 ghost use Rattle.std.specs.Prelude.{List, Some, Result};
+ghost use Rattle.adf_format.specs.Tree.{IsTree};
 ghost use Rattle.adf_model.specs.declared.error.EditError.{EditError};
 ghost use Rattle.adf_model.specs.declared.tree.Edit.{Edit};
 ghost use Rattle.adf_model.specs.declared.tree.NodeId.{NodeId};
-ghost use Rattle.adf_model.specs.Slots.{Slot, Files, Devices, AreTrees, device_at, with_slot};
+ghost use Rattle.adf_model.specs.Slots.{Slot, Files, Devices, device_at, with_slot};
 ghost use Rattle.adf_model.specs.Slots.Slot.{Live};
 ghost use Rattle.adf_model.specs.Steps.{OthersOnlyRead, OthersStayPlaced, IsLaidOutAt, Changed, Step};
 ghost use Rattle.adf_model.specs.Runs.{EditsTold};
@@ -17,7 +18,7 @@ ghost use Rattle.adf_model.specs.FileGroup.{IsFileGroup};
 pub fn file_groups_are_steps()
     ensures { (files : Files) (before now : Devices) (edits : List Edit)
         (result : Result (List NodeId) EditError) (slot : Slot)
-        (told : EditsTold files before edits) → AreTrees files → IsLaidOutAt (Live told.opened)
+        (told : EditsTold files before edits) → IsTree told.opened.tree → IsLaidOutAt (Live told.opened)
         (device_at before told.number) → OthersOnlyRead (Some told.number) before now
         → OthersStayPlaced (Some told.number) before now → IsFileGroup (Live told.opened)
         (device_at before told.number) edits result (device_at now told.number) slot → Step files
