@@ -8,14 +8,16 @@ use Rattle.adf_model.specs.declared.tree.Edit.{Edit}
 use Rattle.adf_model.specs.declared.tree.Edit.TheVariants.{Create, Delete, Rename, Move, SetLabel, SetDims, PutAll, PutPart, Link}
 use Rattle.adf_model.specs.declared.tree.NodeId.{NodeId}
 use Rattle.adf_model.specs.Tests.{and_then}
-use Rattle.adf_model.specs.Edits.{named_nodes, followed, with_followed}
-use Rattle.adf_model.specs.Slots.{Files, Devices, open_at}
-use Rattle.adf_model.specs.Follow.{Spot, reach}
+use Rattle.adf_model.specs.Edits.{named_nodes, followed, with_followed, names_link}
+use Rattle.adf_format.specs.Tree.{node_at}
+use Rattle.adf_model.specs.Slots.{Open, Files, Devices, open_at}
+use Rattle.adf_model.specs.Follow.{Spot, reach, text_of_open, link_text_at}
 use Rattle.adf_model.specs.OneFile.{StandsIn}
 use Rattle.adf_model.specs.Calls.{is_live_in, tests_at_entry, resolved, resolve}
 use Rattle.adf_model.specs.Causes.{OnlyAsks}
 use Rattle.adf_model.proofs.Basics.{same_Ok, same_Some, not_there, done, or_none, not_false, equal}
 use Rattle.adf_model.proofs.Following.StepTests.{followed_same}
+use Rattle.adf_model.proofs.Following.OneFileLaws.{no_text}
 use Rattle.adf_follow.specs.Groups.{FileWork, with_there, led_from, led_to, AreOpen, IsEditTold, IsToldBy, IsStepped, IsDone}
 use Rattle.adf_follow.specs.Looking.{IsToldIn, IsToldFrom, IsWalked, HasWalkCause, as_is}
 use Rattle.adf_follow.proofs.Looks.{told_in_on, passed_on}
@@ -104,10 +106,17 @@ leads_there files edit there e = by_followed (followed edit) e
 module _ (files : Files) (before : Devices) (edit : Edit) where
   -- ---- where it leads
 
+  -- no link is met
+  plain : (one : IsEditTold files before edit) (node : NodeId) → followed edit ≡ Some node → link_text_at files node ≡ None
+  plain one node e =
+      let at = followed_has (λ (n : NodeId). n.file ≡ one.number) edit node one.stands e in
+      ap (λ (o : Option Open). text_of_open o node.serial) (ap (open_at files) at ∙ one.live)
+      ∙ no_text (node_at one.opened.tree node.serial) (ap (names_link one.opened.tree) (sym e) ∙ one.no_link)
+
   from_told : (node : NodeId) → followed edit ≡ Some node → IsToldBy files before edit → IsToldFrom files before node
   from_told node e told = elim told [
-    | inl all ↦ inl all
-    | inr one ↦ inr (subst (IsToldIn files before) (sym (followed_has (λ (n : NodeId). n.file ≡ one.number) edit node one.stands e)) one.told, one.no_link node e)
+    | inl all ↦ inl all.0
+    | inr one ↦ inr (subst (IsToldIn files before) (sym (followed_has (λ (n : NodeId). n.file ≡ one.number) edit node one.stands e)) one.told, plain one node e)
   ]
 
   pub leads_on : (now : Devices) (node there : NodeId) → followed edit ≡ Some node → IsWalked (IsToldFrom files before node) LinkMissing files before now as_is (reach files node) (Ok there)
@@ -120,20 +129,20 @@ module _ (files : Files) (before : Devices) (edit : Edit) where
       (λ cause. cause) (from_told node e) (λ told failed. ap (led_from files) e ∙ ap (λ r. and_then r (λ (there : NodeId). Ok (Some there))) failed) h
 
   -- an edit that meets no link is one of its own nodes
-  itself : IsEditTold files before edit → (there : Option NodeId) → led_to files edit ≡ Ok there → with_there edit there ≡ edit
+  pub itself : IsEditTold files before edit → (there : Option NodeId) → led_to files edit ≡ Ok there → with_there edit there ≡ edit
   itself one there e = by_followed (followed edit) refl e
     where
       by_followed : (o : Option NodeId) → followed edit ≡ o → led_from files o ≡ Ok there → with_there edit there ≡ edit
       by_followed None is e = ap (with_there edit) (sym (same_Ok e))
       by_followed (Some node) is e =
-          let reached : reach files node ≡ Ok node = ap (λ r. and_then r (λ (spot : Spot). Ok spot.node)) (at_node files node 100 (omega arith) (one.no_link node is)) in
+          let reached : reach files node ≡ Ok node = ap (λ r. and_then r (λ (spot : Spot). Ok spot.node)) (at_node files node 100 (omega arith) (plain one node is)) in
           let same : Some node ≡ there = same_Ok (sym (ap (λ r. and_then r (λ (there : NodeId). Ok (Some there))) reached) ∙ e) in
           ap (with_there edit) (sym same) ∙ followed_same edit node is
 
   -- the file of the nodes that it reaches is told
   pub told_there : (there : Option NodeId) (number : ℕ) → led_to files edit ≡ Ok there → StandsIn number (with_there edit there) → IsToldBy files before edit → IsToldIn files before number
   told_there there number e stands told = elim told [
-    | inl all ↦ all number
+    | inl all ↦ all.0 number
     | inr one ↦
         let own : StandsIn number edit = subst (StandsIn number) (itself one there e) stands in
         subst (IsToldIn files before) (sym (first_has (λ (n : NodeId). n.file ≡ one.number) edit one.stands) ∙ first_has (λ (n : NodeId). n.file ≡ number) edit own) one.told

@@ -9,7 +9,7 @@ use Rattle.adf_model.specs.declared.tree.Edit.{Edit}
 use Rattle.adf_model.specs.declared.tree.Edit.TheVariants.{Create, Delete, Rename, Move, SetLabel, SetDims, PutAll, PutPart, Link}
 use Rattle.adf_model.specs.declared.tree.NodeId.{NodeId}
 use Rattle.adf_model.specs.Tests.{checked, and_then, if_there, first_refusal}
-use Rattle.adf_model.specs.Edits.{apply, named_nodes, followed, with_followed}
+use Rattle.adf_model.specs.Edits.{apply, named_nodes, followed, with_followed, file_step}
 use Rattle.adf_model.specs.Slots.{Open, Standing, standing_of, Files, Devices, AreTrees, slot_at, open_at, with_slot, device_at}
 use Rattle.adf_model.specs.Follow.{reach}
 use Rattle.adf_model.specs.OneFile.{StandsIn}
@@ -17,25 +17,25 @@ use Rattle.adf_model.specs.Calls.{Group, file_of, file_of_group, group_after, te
 use Rattle.adf_model.specs.Steps.{HasCauseOf, own_file, IsFileRefusal}
 use Rattle.adf_model.specs.Causes.{OnlyAsks, ComesFromFiles, is_of_links, is_of_kind, may_refuse_edit}
 use Rattle.adf_model.proofs.Basics.{not_true}
-use Rattle.adf_model.proofs.Following.OneFileLaws.{reached_as_many}
+use Rattle.adf_model.proofs.Following.OneFileLaws.{reached_as_many, in_its_file}
 use Rattle.adf_follow.specs.Groups.{FileWork, Pending, at_rest, with_there, led_from, led_to, AreOpen, IsToldBy, IsStepRefusal, IsEditRefusal, IsRefusedAnyway, LeavesUndone, IsDoneAnyway}
 use Rattle.adf_follow.specs.Looking.{IsToldIn, IsWalked, HasStepCause, as_is}
 use Rattle.adf_follow.proofs.Looks.{told_in_on, fault_before}
 use Rattle.adf_follow.proofs.Entered.{Passed, Fails, is_entry_error, passes_refused, passes_checked, fails_checked, entry_error, refused_enters, passed_enters, files_pass}
-use Rattle.adf_follow.proofs.DoneEdit.{all_there, first_of, first_has, leads_there, told_there}
+use Rattle.adf_follow.proofs.DoneEdit.{all_there, first_of, first_has, leads_there, itself, told_there}
 
 -- ---- where files are told
 
 module _ (files : Files) (was : ℕ → FileWork) (group : Option ℕ) (edit : Edit) where
   -- a refusal of the trees is none of the others
   abbrev Refuses : AdfError → Type 0
-  Refuses error = (g : Group) → g.files ≡ files → g.file ≡ group → AreTrees files → group_step g edit ≡ Err error
+  Refuses error = (g : Group) → g.files ≡ files → g.file ≡ group → group_step g edit ≡ Err error
 
   pub entry_refuses : (error : AdfError) → Fails (tests_at_entry files (named_nodes edit)) error → IsEditRefusal files was group edit error
   entry_refuses error e = by_error error (entry_error files (named_nodes edit) error e) steps
     where
       steps : Refuses error
-      steps g same own trees = fails_checked (tests_at_entry g.files (named_nodes edit)) (and_then (resolve g.files edit) (λ reached. edit_reached g reached)) error (subst (λ (f : Files). Fails (tests_at_entry f (named_nodes edit)) error) (sym same) e)
+      steps g same own = fails_checked (tests_at_entry g.files (named_nodes edit)) (and_then (resolve g.files edit) (λ reached. edit_reached g reached)) error (subst (λ (f : Files). Fails (tests_at_entry f (named_nodes edit)) error) (sym same) e)
 
       by_error : (x : AdfError) → is_entry_error x ≡ true → Refuses x → IsEditRefusal files was group edit x
       by_error Memory entry h = tt
@@ -79,7 +79,7 @@ module _ (files : Files) (was : ℕ → FileWork) (group : Option ℕ) (edit : E
       where
         not_full : (asked end : ℕ) → Full asked end ≡ LinkMissing → ⊥
         not_full asked end e = cc
-    link_refuses told before now error h t = λ g same own trees. leads_to (Err error) (lost error (h.1 t)) g same
+    link_refuses told before now error h t = λ g same own. leads_to (Err error) (lost error (h.1 t)) g same
 
     -- a node of another file
     module _ (there : Option NodeId) (number : ℕ) (led : led_to files edit ≡ Ok there) where
@@ -94,7 +94,7 @@ module _ (files : Files) (was : ℕ → FileWork) (group : Option ℕ) (edit : E
       in_file g n o = if_there o NotOpen (λ opened. checked ((list_any (λ (node : NodeId). not (node.file == n)) (named_nodes reached), OtherFile) ∷ (not opened.writable, ReadOnly) ∷ []) (and_then (apply opened.tree reached) (λ tree. Ok (group_after g n opened reached tree))))
 
       pub other_refuses : number ≡ unwrap_or group (file_of (named_nodes reached)) → IsSome (open_at files number) → list_any (λ (node : NodeId). not (node.file == number)) (named_nodes reached) ≡ true → IsEditRefusal files was group edit OtherFile
-      other_refuses is open_there elsewhere = λ g same own trees.
+      other_refuses is open_there elsewhere = λ g same own.
           leads_to (Ok reached) (leads_there files edit there led) g same
           ∙ ap (λ n. in_file g n (open_at g.files n)) (own_number is g own)
           ∙ ap (λ (f : Files). in_file g number (open_at f number)) same
@@ -105,13 +105,28 @@ module _ (files : Files) (was : ℕ → FileWork) (group : Option ℕ) (edit : E
           by_open g (Some opened) some = ap (λ (b : Bool). checked ((b, OtherFile) ∷ (not opened.writable, ReadOnly) ∷ []) (and_then (apply opened.tree reached) (λ tree. Ok (group_after g number opened reached tree)))) elsewhere
 
       -- the file refuses the step
-      pub step_refuses : (group ≡ None) ⊎ (group ≡ Some number) → StandsIn number reached → (error : AdfError) → IsStepRefusal files was number reached error → IsEditRefusal files was group edit error
-      step_refuses own stands error h = by_error error h.opened h.here h.why
+      pub step_refuses : (group ≡ None) ⊎ (group ≡ Some number) → StandsIn number reached → AreTrees files ⊎ (with_there edit there ≡ edit) → (error : AdfError) → error ≢ LinkMissing → IsStepRefusal files was number reached error → IsEditRefusal files was group edit error
+      step_refuses own stands trees error no_link h = by_error error no_link h.opened h.here h.why
         where
-          by_error : (x : AdfError) (opened : Open) → open_at files number ≡ Some opened → IsFileRefusal false opened.writable opened.limit opened.tree (was number).placement reached x → IsEditRefusal files was group edit x
-          by_error Memory opened here why = tt
-          by_error ReadFault opened here why = passes_refused (tests_at_entry files (named_nodes edit)) entry
-          by_error (Full asked end) opened here why = record {
+          -- the group does what the file does
+          as_many : (g : Group) (opened : Open) (x : AdfError) → g.files ≡ files → g.file ≡ group → open_at files number ≡ Some opened → x ≢ LinkMissing → file_step opened.writable opened.tree reached ≡ Err x
+              → group_step g edit ≡ and_then (file_step opened.writable opened.tree reached) (λ tree. Ok (group_after g number opened reached tree))
+          as_many g opened x same of_group here plain why =
+              let there_open = subst (λ (f : Files). open_at f number ≡ Some opened) (sym same) here in
+              let of_file : (g.file ≡ None) ⊎ (g.file ≡ Some number) = elim own [ inl none ↦ inl (of_group ∙ none) | inr some ↦ inr (of_group ∙ some) ] in
+              elim trees [
+                | inl all ↦ reached_as_many g number opened edit reached (subst AreTrees (sym same) all) (subst (λ (f : Files). first_refusal (tests_at_entry f (named_nodes edit)) ≡ None) (sym same) (passes_refused (tests_at_entry files (named_nodes edit)) entry))
+                    (subst (λ (f : Files). resolve f edit ≡ Ok reached) (sym same) (leads_there files edit there led)) there_open of_file stands
+                | inr is ↦ ap (group_step g) (sym is) ∙ in_its_file g number opened reached there_open of_file stands (λ e. plain (same_error x LinkMissing (sym why ∙ e)))
+              ]
+            where
+              same_error : (one other : AdfError) → ◌≡◌ {A = Result Tree AdfError} (Err one) (Err other) → one ≡ other
+              same_error one other e = cc
+
+          by_error : (x : AdfError) → x ≢ LinkMissing → (opened : Open) → open_at files number ≡ Some opened → IsFileRefusal false opened.writable opened.limit opened.tree (was number).placement reached x → IsEditRefusal files was group edit x
+          by_error Memory plain opened here why = tt
+          by_error ReadFault plain opened here why = passes_refused (tests_at_entry files (named_nodes edit)) entry
+          by_error (Full asked end) plain opened here why = record {
             number = number;
             reached = reached;
             opened = opened;
@@ -124,11 +139,16 @@ module _ (files : Files) (was : ℕ → FileWork) (group : Option ℕ) (edit : E
             made = why.1.1;
             over = why.1.2;
           }
-          by_error x opened here why = λ g same of_group trees.
-              reached_as_many g number opened edit reached (subst AreTrees (sym same) trees) (subst (λ (f : Files). first_refusal (tests_at_entry f (named_nodes edit)) ≡ None) (sym same) (passes_refused (tests_at_entry files (named_nodes edit)) entry))
-              (subst (λ (f : Files). resolve f edit ≡ Ok reached) (sym same) (leads_there files edit there led)) (subst (λ (f : Files). open_at f number ≡ Some opened) (sym same) here)
-              (elim own [ inl none ↦ inl (of_group ∙ none) | inr some ↦ inr (of_group ∙ some) ]) stands
-              ∙ ap (λ r. and_then r (λ (tree : Tree). Ok (group_after g number opened reached tree))) why
+          by_error LinkMissing plain opened here why = absurd (plain refl)
+          by_error x plain opened here why = λ g same of_group. as_many g opened x same of_group here plain why ∙ ap (λ r. and_then r (λ (tree : Tree). Ok (group_after g number opened reached tree))) why
+
+-- where an edit is told, what is open are trees, or it is one of its own nodes
+pub trees_or_own : (files : Files) (before : Devices) (edit : Edit) (there : Option NodeId) → led_to files edit ≡ Ok there → IsToldBy files before edit → AreTrees files ⊎ (with_there edit there ≡ edit)
+trees_or_own files before edit there led told = elim told [ inl all ↦ inl all.1 | inr one ↦ inr (itself files before edit one there led) ]
+
+-- no step is refused for a link
+pub step_plain : (files : Files) (edit : Edit) (number : ℕ) (before now : Devices) (error : AdfError) → HasStepCause files edit number before now error → error ≢ LinkMissing
+step_plain files edit number before now error h e = subst (HasStepCause files edit number before now) e h
 
 -- ---- the file of an edit
 

@@ -14,15 +14,15 @@ use Rattle.adf_model.specs.Placing.{placed_as, chunk_number}
 use Rattle.adf_model.specs.Slots.{Open, Files, Devices, AreTrees, open_at, with_slot, device_at}
 use Rattle.adf_model.specs.Slots.Slot.{Live}
 use Rattle.adf_model.specs.Calls.{tests_at_entry, resolve, edit_group, group_after, group_step}
-use Rattle.adf_model.proofs.Basics.{not_there, same_Some}
-use Rattle.adf_model.proofs.Following.OneFileLaws.{reached_as_many, opened_now}
+use Rattle.adf_model.proofs.Basics.{not_there, same_Some, not_Err}
+use Rattle.adf_model.proofs.Following.OneFileLaws.{reached_as_many, in_its_file, opened_now}
 use Rattle.tree_laws.specs.Groups.{tree_left}
 use Rattle.tree_laws.proofs.Groups.GroupsGrow.{tree_grows, placement_grows, placement_is_left, cost_grows}
 use Rattle.tree_laws.proofs.Groups.FileLoop.{files_go_on}
 use Rattle.adf_follow.specs.Groups.{FileWork, HasCome, IsUnderWay, IsStep}
 
 module _ (files now after : Files) (before : Devices) (edits : List Edit) (i n : ℕ) (number : Option ℕ) (created : List NodeId) (was work : ℕ → FileWork) (edit reached : Edit) (opened : Open) (tree : Tree)
-    (way : IsUnderWay files before edits i number created was now) (trees : AreTrees now) (is : slice_get edits i ≡ Some edit) (entered : first_refusal (tests_at_entry now (named_nodes edit)) ≡ None) (leads : resolve now edit ≡ Ok reached)
+    (way : IsUnderWay files before edits i number created was now) (trees : AreTrees now ⊎ (reached ≡ edit)) (is : slice_get edits i ≡ Some edit) (entered : first_refusal (tests_at_entry now (named_nodes edit)) ≡ None) (leads : resolve now edit ≡ Ok reached)
     (here : open_at now n ≡ Some opened) (own : (number ≡ None) ⊎ (number ≡ Some n)) (stands : StandsIn n reached) (step : IsStep opened reached tree (was n) (work n)) (left : after ≡ with_slot now n (Live (record opened { tree = tree }))) where
   abbrev e : Edit × Tree
   e = (reached, tree)
@@ -31,9 +31,11 @@ module _ (files now after : Files) (before : Devices) (edits : List Edit) (i n :
   own_group = elim own [ inl h ↦ inl (way.file ∙ h) | inr h ↦ inr (way.file ∙ h) ]
 
   stepped : group_step way.group edit ≡ Ok (group_after way.group n opened reached tree)
-  stepped =
-      reached_as_many way.group n opened edit reached (subst AreTrees way.trees trees) (subst (λ f. first_refusal (tests_at_entry f (named_nodes edit)) ≡ None) way.trees entered)
-      (subst (λ f. resolve f edit ≡ Ok reached) way.trees leads) (subst (λ f. open_at f n ≡ Some opened) way.trees here) own_group stands
+  stepped = elim trees [
+    | inl all ↦ reached_as_many way.group n opened edit reached (subst AreTrees way.trees all) (subst (λ f. first_refusal (tests_at_entry f (named_nodes edit)) ≡ None) way.trees entered)
+        (subst (λ f. resolve f edit ≡ Ok reached) way.trees leads) (subst (λ f. open_at f n ≡ Some opened) way.trees here) own_group stands
+    | inr is ↦ ap (group_step way.group) (sym is) ∙ in_its_file way.group n opened reached (subst (λ f. open_at f n ≡ Some opened) way.trees here) own_group stands (λ e. not_Err (sym e ∙ step.made))
+  ]
       ∙ ap (λ r. and_then r (λ (t : Tree). Ok (group_after way.group n opened reached t))) step.made
 
   further : HasCome files before (way.group.done ++ e ∷ []) n (record opened { tree = tree }) (work n)

@@ -10,14 +10,14 @@ use Rattle.adf_model.specs.declared.error.AdfError.TheVariants.{Memory, ReadFaul
 use Rattle.adf_model.specs.declared.tree.Edit.{Edit}
 use Rattle.adf_model.specs.declared.tree.NodeId.{NodeId}
 use Rattle.adf_model.specs.Tests.{and_then, first_refusal}
-use Rattle.adf_model.specs.Edits.{named_nodes, followed, with_followed, created_by, file_step}
+use Rattle.adf_model.specs.Edits.{named_nodes, followed, names_link, with_followed, created_by, file_step}
 use Rattle.adf_model.specs.Need.{cost}
 use Rattle.adf_model.specs.Placing.{placed_as, place_group, chunk_number, group_cost}
 use Rattle.adf_model.specs.Untouched.{KeepsRest, KeepsTail}
 use Rattle.adf_model.specs.Torn.{TornGroup}
 use Rattle.adf_model.specs.Slots.{Open, Standing, Files, Device, Devices, AreTrees, slot_at, standing_of, open_at, with_slot, device_at, names_there, standings, IsTold}
 use Rattle.adf_model.specs.Slots.Slot.{Live}
-use Rattle.adf_model.specs.Follow.{link_text_at, reach}
+use Rattle.adf_model.specs.Follow.{reach}
 use Rattle.adf_model.specs.OneFile.{StandsIn}
 use Rattle.adf_model.specs.Calls.{Group, tests_of_files, tests_at_entry, resolve, group_step, edit_group}
 use Rattle.adf_model.specs.Steps.{OthersOnlyRead, OthersStayPlaced, HasCauseOf, own_file, IsFileRefusal}
@@ -117,13 +117,15 @@ AreOpen files nodes = AllByRecursion (λ (node : NodeId). IsSome (open_at files 
 -- an edit that meets no link, of nodes of one file that tells
 pub record IsEditTold (files : Files) (devices : Devices) (edit : Edit) : Type 0 where
   pub number : ℕ
+  pub opened : Open
+  pub live : open_at files number ≡ Some opened
   pub told : IsToldIn files devices number
   pub stands : StandsIn number edit
-  pub no_link : (node : NodeId) → followed edit ≡ Some node → link_text_at files node ≡ None
+  pub no_link : names_link opened.tree (followed edit) ≡ false
 
--- the devices that an edit may touch tell what they hold
+-- the devices that an edit may touch tell what they hold, and what is open are trees
 abbrev pub IsToldBy : Files → Devices → Edit → Type 0
-IsToldBy files devices edit = IsTold files devices ⊎ IsEditTold files devices edit
+IsToldBy files devices edit = (IsTold files devices × AreTrees files) ⊎ IsEditTold files devices edit
 
 -- an edit is done: its entry is passed, its links lead to nodes of the group's file, and that file has done the step
 pub record IsDone (before after : Files) (was work : ℕ → FileWork) (group : Option ℕ) (edit : Edit) (number : ℕ) (serial : Option ℕ) : Type 0 where
@@ -163,7 +165,7 @@ abbrev pub IsEditRefusal : Files → (ℕ → FileWork) → Option ℕ → Edit 
 IsEditRefusal files was group edit Memory = Unit {0}
 IsEditRefusal files was group edit ReadFault = first_refusal (tests_at_entry files (named_nodes edit)) ≡ None
 IsEditRefusal files was group edit (Full asked end) = IsFullAt files was group edit asked end
-IsEditRefusal files was group edit error = (g : Group) → g.files ≡ files → g.file ≡ group → AreTrees files → group_step g edit ≡ Err error
+IsEditRefusal files was group edit error = (g : Group) → g.files ≡ files → g.file ≡ group → group_step g edit ≡ Err error
 
 -- a refusal also where files are not told: it enters its files, has its cause, and is of its kind
 pub record IsRefusedAnyway (files : Files) (before now : Devices) (edit : Edit) (error : AdfError) : Type 0 where

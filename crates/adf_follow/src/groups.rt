@@ -13,12 +13,12 @@ ghost use Rattle.adf_model.specs.Calls.{tests_at_entry, resolve};
 ghost use Rattle.adf_follow.specs.Groups.{FileWork, IsStep, IsUnderWay};
 
 /// A group that is under way goes on: where the entry is passed, the links of the trees in work lead to
-/// nodes of the group's file, and that file does the step.
+/// nodes of the group's file, and that file does the step. What is open are trees, or no link is met.
 pub fn groups_go_on()
     ensures { (files now after : Files) (before : Devices) (edits : List Edit) (i n : ℕ)
         (number : Option ℕ) (created : List NodeId) (was work : ℕ → FileWork) (edit reached : Edit)
         (opened : Open) (tree : Tree) → IsUnderWay files before edits i number created was now
-        → AreTrees now → slice_get edits i ≡ Some edit → first_refusal
+        → AreTrees now ⊎ (reached ≡ edit) → slice_get edits i ≡ Some edit → first_refusal
         (tests_at_entry now (named_nodes edit)) ≡ None → resolve now edit ≡ Ok reached → open_at now
         n ≡ Some opened → (number ≡ None) ⊎ (number ≡ Some n) → StandsIn n reached → IsStep opened
         reached tree (was n) (work n) → after ≡ with_slot now n
