@@ -1,3 +1,5 @@
 pub mod WriterLaws
 pub mod PlaceLaws
 pub mod FamilyLaws
+pub mod CopyLaws
+pub mod AppendLaws

@@ -11,10 +11,10 @@ use Rattle.adf_repack.specs.declared.places.NodeShape.{NodeShape}
 use Rattle.packed_laws.specs.PackedForm.{packed_room}
 use Rattle.adf_repack.specs.Places.{table_room, data_room, room_of, shape_of, shapes_of, LengthIsPacked, place_of}
 
-no_zero : (n : ℕ) → 0 < n → (n == 0) ≡ false
+pub no_zero : (n : ℕ) → 0 < n → (n == 0) ≡ false
 no_zero n lt = grind (arith, nat_tests)
 
-table_is : (children : List ℕ) → table_room (length children) ≡ packed_table children
+pub table_is : (children : List ℕ) → table_room (length children) ≡ packed_table children
 table_is [] = refl
 table_is (c ∷ cs) = ap (λ (b : Bool). cond b 0 (table_length (length (c ∷ cs)))) (no_zero (length (c ∷ cs)) (omega arith))
 

@@ -1,3 +1,4 @@
 pub mod Writers
 pub mod Places
 pub mod Families
+pub mod Copies

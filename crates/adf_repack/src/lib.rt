@@ -5,9 +5,16 @@
 #![tactic(auto)]
 
 mod families;
+mod headers;
 mod places;
+mod puts;
 mod writer;
 
 pub use families::{Families, families_of};
+pub use headers::{copied_is_packed, dimensions_within, file_header, no_lists, packed_header};
 pub use places::{NodeShape, PackedPlaces, check_length, length_is_packed, packed_places};
+pub use puts::{
+    put, put_chunk_end, put_chunk_head, put_entry, put_head, put_header, put_table_end,
+    put_table_head,
+};
 pub use writer::BlockWriter;

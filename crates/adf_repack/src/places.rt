@@ -1,6 +1,7 @@
 //! Where the parts of a packed file stand.
 
 ghost use Rattle.std.specs.Prelude.{◌≡◌, ◌↔◌, ℕ, ◌^◌, ◌<◌, length, get_or, IfOk, IfErr, IsErr};
+ghost use Rattle.adf_format.specs.Parts.{node_length};
 ghost use Rattle.adf_model.specs.declared.error.AdfError.{AdfError};
 ghost use Rattle.adf_repack.specs.Places.{table_room, data_room, room_of, place_of, length_of, limited, LengthIsPacked};
 
@@ -71,14 +72,20 @@ pub fn length_is_packed()
 fn room_for(wide: bool, shape: &NodeShape) -> u64
     ensures { result ≡ limited (room_of wide shape.now) }
 {
-    let header: u64 = if wide { 342 } else { 246 };
-    header
+    header_length(wide)
         .saturating_add(table_room(shape.children))
         .saturating_add(data_room(shape.size))
 }
 
+// The bytes of the header of a node.
+pub(crate) fn header_length(wide: bool) -> u64
+    ensures { result ≡ node_length wide }
+{
+    if wide { 342 } else { 246 }
+}
+
 // The bytes of a table of so many children: none without children.
-fn table_room(children: u64) -> u64
+pub(crate) fn table_room(children: u64) -> u64
     ensures { result ≡ limited (table_room children) }
 {
     if children == 0 {

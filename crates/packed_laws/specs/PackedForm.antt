@@ -5,6 +5,7 @@ use Rattle.adf_format.specs.Pointer.{Blank, To}
 use Rattle.adf_format.specs.Fields.{text_field}
 use Rattle.adf_format.specs.declared.fields.TheConstants.{HEADER_CREATED, HEADER_MODIFIED, NODE_NAME, NODE_LABEL, ENTRY_NAME}
 use Rattle.adf_format.specs.RecordFields.{dimension_digits, node_length}
+use Rattle.adf_format.specs.declared.types.Format.{Format}
 use Rattle.adf_format.specs.Tree.{Tree, Node, name_at}
 use Rattle.adf_format.specs.Placement.{Placement, NodeParts, TablePart, ChunkPart}
 use Rattle.adf_format.specs.LaysOut.{entry_count, chunk_pointer}
@@ -59,13 +60,16 @@ packed_placement tree = record { parts = packed_from tree.wide 266 tree.nodes; h
 -- ---- bytes
 
 -- dates are zeros; all else is that of a fresh file, but for the byte order and the end
-abbrev pub packed_header : Tree → HeaderRecord
-packed_header tree = record (fresh_header tree.wide) {
+abbrev pub packed_header_of : Bool → Format → ℕ → HeaderRecord
+packed_header_of wide format end = record (fresh_header wide) {
   created = replicate HEADER_CREATED.length 0;
   modified = replicate HEADER_MODIFIED.length 0;
-  format = tree.format;
-  end = To (packed_length tree - 1);
+  format = format;
+  end = To end;
 }
+
+abbrev pub packed_header : Tree → HeaderRecord
+packed_header tree = packed_header_of tree.wide tree.format (packed_length tree - 1)
 
 -- the dimensions, and zeros past the rank
 abbrev pub packed_dims : Bool → List ℕ → List (List ℕ)

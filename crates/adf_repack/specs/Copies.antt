@@ -1,0 +1,70 @@
+-- What is written of a node, by its header as it was read, and what appending it does.
+use Rattle.std.specs.Prelude.{◌≡◌, ℕ, ◌+◌, ◌==◌, ◌≤◌, Bool, not, cond, List, length, take, is_some, Result, OnOk, IfErr}
+use Rattle.adf_format.specs.Fields.{text_field}
+use Rattle.adf_format.specs.Pointer.{Pointer, Blank, To}
+use Rattle.adf_format.specs.Parts.{node_length}
+use Rattle.adf_format.specs.Records.{NodeRecord}
+use Rattle.adf_format.specs.Tree.{Node}
+use Rattle.adf_model.specs.declared.error.AdfError.{AdfError}
+use Rattle.adf_records.specs.declared.NodeHeader.{NodeHeader}
+use Rattle.cg_io.specs.Cause.{Rose}
+use Rattle.cg_io.specs.Device.{DeviceState}
+use Rattle.layout_lint.specs.Nodes.{numbers_of}
+use Rattle.packed_laws.specs.PackedForm.{packed_dims, packed_parts, packed_record}
+use Rattle.adf_repack.specs.declared.places.NodeShape.{NodeShape}
+use Rattle.adf_repack.specs.declared.writer.BlockWriter.{BlockWriter}
+use Rattle.adf_repack.specs.Places.{table_room, shape_of}
+use Rattle.adf_repack.specs.Writers.{IsWriter, appended_in, with_more, count_in, blocks_in, state_under, WritesBlocks, OnlyWrites}
+
+-- ---- a header
+
+-- a pointer to a place, or the blank one
+abbrev pub pointer_when : Bool → ℕ → Pointer
+pointer_when there place = cond there (To place) Blank
+
+-- the record of a node, of which the header in the new file stands at a place: texts, type and dimensions are those that were read
+abbrev pub copied_record : Bool → NodeHeader → ℕ → NodeShape → NodeRecord
+copied_record wide h place shape = record {
+  name = h.name;
+  label = h.label;
+  children = shape.children;
+  entries = shape.children;
+  table = pointer_when (not (shape.children == 0)) (place + node_length wide);
+  kind = h.kind;
+  rank = h.rank;
+  dims = packed_dims wide (take h.rank (numbers_of h));
+  chunks = cond (is_some shape.size) 1 0;
+  chunk = pointer_when (is_some shape.size) (place + node_length wide + table_room shape.children);
+}
+
+-- a header has the texts, the type and the dimensions of a node
+pub record IsHeaderOf (h : NodeHeader) (node : Node) : Type 0 where
+  pub name : h.name ≡ text_field 32 node.name
+  pub label : h.label ≡ text_field 32 node.label
+  pub kind : h.kind ≡ node.kind
+  pub rank : h.rank ≡ length node.dims
+  pub dims : take h.rank (numbers_of h) ≡ node.dims
+
+-- what is written of the header of a node is what the packed file has there
+abbrev pub CopiedIsPacked : Type 0
+CopiedIsPacked = (wide : Bool) (h : NodeHeader) (place : ℕ) (node : Node) → IsHeaderOf h node
+    → copied_record wide h place (shape_of node) ≡ packed_record wide node (packed_parts wide place node)
+
+-- ---- what is appended
+
+-- a failed write of the device, whose counts rose
+pub record IsUnwritten (old new : DeviceState) (e : AdfError) : Type 0 where
+  pub is : e ≡ AdfError.WriteFault
+  pub faults : Rose old.faults new.faults
+  pub lost : Rose old.lost new.lost
+
+-- These bytes are appended, or a write of the device failed. It is not read, and each block is written once.
+pub record Appends {E : Type 0} (state : E → DeviceState) (bytes : List ℕ) (old new : BlockWriter E) (result : Result Unit AdfError) : Type 0 where
+  pub sound : OnOk result (IsWriter state new)
+  pub appended : OnOk result (appended_in state new ≡ with_more (appended_in state old) bytes)
+  pub count : OnOk result (count_in new ≡ count_in old + length bytes)
+  pub wrote : OnOk result (WritesBlocks (blocks_in old) (blocks_in new) (state_under state old) (state_under state new))
+  pub effect : OnlyWrites (state_under state old) (state_under state new)
+  pub later : (state_under state old).faults ≤ (state_under state new).faults
+  pub lost : (state_under state old).lost ≤ (state_under state new).lost
+  pub cause : IfErr result (IsUnwritten (state_under state old) (state_under state new))
