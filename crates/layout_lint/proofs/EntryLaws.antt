@@ -5,7 +5,7 @@ use Rattle.std.specs.List.{list_any, range_with_len}
 use Rattle.std.specs.Str.{bytes_eq}
 use Rattle.std.specs.Ordering.{nat_cmp}
 use Rattle.std.specs.Cmp.Lexicographic.{slice_cmp}
-use Rattle.std.specs.BTreeSet.{contains, BTreeSet}
+use Rattle.layout_lint.specs.Keys.{contains}
 use Rattle.std.specs.BTreeMap.{is_at}
 use Rattle.std.proofs.lemmas.Map.Text.{is_eq-slice_cmp}
 use Rattle.adf_format.specs.Pointer.{is_place}
@@ -61,7 +61,7 @@ more_any p a (suc n) = or_last (p a) (p (a + suc n)) (list_any p (range_with_len
     or_last false b c d e = e
 
 -- the set of the names so far, and one more
-pub names_more : (image : List ℕ) (t i : ℕ) (name : List ℕ) (old new : BTreeSet (List ℕ)) → name ≡ entry_name image t i
+pub names_more : (image : List ℕ) (t i : ℕ) (name : List ℕ) (old new : List (List ℕ)) → name ≡ entry_name image t i
     → ((q : List ℕ) → contains (slice_cmp nat_cmp) old q ≡ is_repeated image t i q)
     → ((q : List ℕ) → contains (slice_cmp nat_cmp) new q ≡ cond (is_at (slice_cmp nat_cmp name) q) true (contains (slice_cmp nat_cmp) old q))
     → (q : List ℕ) → contains (slice_cmp nat_cmp) new q ≡ is_repeated image t (i + 1) q

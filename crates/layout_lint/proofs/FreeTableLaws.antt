@@ -134,7 +134,7 @@ module _ (image : List ℕ) (table : FreeTable) (lists : HasLists image table) w
 -- ---- the start and the end
 
 module _ (image : List ℕ) (nodes : List Visit) (base : List Extent) (frees : Frees) where
-  pub sweep_begins : frees.places.keys ≡ [] → frees.extents.items ≡ base → frees.used ≡ 266 + total_length (found_extents image (is_wide image) nodes) → HasBegun image nodes base frees
+  pub sweep_begins : frees.places ≡ [] → frees.extents.items ≡ base → frees.used ≡ 266 + total_length (found_extents image (is_wide image) nodes) → HasBegun image nodes base frees
   sweep_begins places extents used = record {
     seen = [];
     at = passes.begin image nodes;

@@ -10,9 +10,8 @@ use Rattle.adf_format.specs.Placement.{Placement}
 use Rattle.adf_format.specs.Verdict.{NodePlace, ListsNodes}
 use Rattle.adf_model.specs.Spelling.{spelled}
 use Rattle.adf_model.proofs.Basics.{not_true, or_parts}
-use Rattle.adf_model.proofs.Trees.AncestorLemmas.{root_or_child, live_with_child}
-use Rattle.adf_model.proofs.Trees.SubtreeLemmas.{lineage_child}
-use Rattle.adf_model.proofs.Trees.Renumbered.{among_get, live_listed, live_within, node_new}
+use Rattle.adf_model.proofs.Trees.AncestorLemmas.{root_or_child}
+use Rattle.adf_model.proofs.Trees.Renumbered.{among_get, live_listed, node_new}
 use Rattle.layout_lint.specs.declared.verdict.NodePlace as code
 use Rattle.layout_lint.specs.Walks.{node_place}
 use Rattle.layout_lint.specs.Paths.{IsWay, to_root, to_child, IsWayUp, from_root, from_child, AreNames}

@@ -4,7 +4,7 @@ use Rattle.std.specs.Prelude.{None, ◌==◌, ◌||◌, reverse}
 use Rattle.std.specs.List.{list_any}
 use Rattle.std.specs.Ordering.{nat_cmp}
 use Rattle.std.specs.BTreeMap.{is_at}
-use Rattle.std.specs.BTreeSet.{contains}
+use Rattle.layout_lint.specs.Keys.{contains}
 use Rattle.std.proofs.lemmas.Grind.{flat_map-append}
 use Rattle.std.proofs.lemmas.List.{map-append, length-map}
 use Rattle.std.proofs.lemmas.List.Folds.{list_any-append}
@@ -26,7 +26,7 @@ use Rattle.layout_lint.specs.Nodes.{LeadsTo, extents_at}
 use Rattle.layout_lint.specs.Walks.{waiting_of, waiting_in, node_place, root_waiting, IsSearch, IsFound, EndsWalk}
 
 -- the root waits
-pub begins : (image : List ℕ) (s : Search) → s.nodes.items ≡ [] → s.places.keys ≡ [] → s.extents.items ≡ head_extents → s.used ≡ 266 → IsSearch image (root_waiting image ∷ []) s
+pub begins : (image : List ℕ) (s : Search) → s.nodes.items ≡ [] → s.places ≡ [] → s.extents.items ≡ head_extents → s.used ≡ 266 → IsSearch image (root_waiting image ∷ []) s
 begins image s nodes places extents used = record {
   met = [];
   underway = passes.start image;

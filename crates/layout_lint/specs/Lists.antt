@@ -1,7 +1,7 @@
 -- What a pass over the lists of free chunks has found.
 use Rattle.std.specs.Prelude.{◌≡◌, ℕ, ◌+◌, Bool, nat_le, cond, true, ◌&&◌, ◌==◌, List, [], ◌∷◌, ◌++◌, map, Option, Some, None, Err, codes}
 use Rattle.std.specs.Ordering.{nat_cmp}
-use Rattle.std.specs.BTreeSet.{contains}
+use Rattle.layout_lint.specs.Keys.{contains}
 use Rattle.adf_format.specs.Fields.{field, holds}
 use Rattle.adf_format.specs.Pointer.{pointer, is_pointer, is_place, place_of, is_place_value, place_value}
 use Rattle.adf_format.specs.Tiles.{total_length}

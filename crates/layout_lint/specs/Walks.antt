@@ -2,7 +2,7 @@
 use Rattle.std.specs.Prelude.{[], ◌∷◌, ◌==◌, cond, true, ◌≡◌, ◌≤◌, ◌<◌, ℕ, ◌+◌, ◌-◌, ◌*◌, List, ◌++◌, map, reverse, slice_get, Option, Some, None, Ok, Err}
 use Rattle.std.specs.List.{All, range_with_len, sum_by, flat_map}
 use Rattle.std.specs.Ordering.{nat_cmp}
-use Rattle.std.specs.BTreeSet.{contains}
+use Rattle.layout_lint.specs.Keys.{contains}
 use Rattle.adf_format.specs.Verdict.{NodePlace}
 use Rattle.adf_format.specs.Tiles.{total_length}
 use Rattle.adf_format.specs.Placement.{head_extents}

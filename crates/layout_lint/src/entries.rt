@@ -8,6 +8,7 @@ ghost use Rattle.layout_lint.specs.Told.{Told, IsReady};
 ghost use Rattle.layout_lint.specs.Halts.{Finds, HasCount, MayLackMemory};
 ghost use Rattle.layout_lint.specs.Marks.{name_said};
 
+use crate::keys::KeySet;
 use crate::marks::{Mark, is_place, look_at_start, look_at_tail, points_to};
 use crate::pages::{Page, field_at};
 use crate::verdict::{Halt, Span, halt_at};
@@ -15,7 +16,6 @@ use adf_chunks::Part;
 use adf_records::is_name_field;
 use cg_io::Blocks;
 use std::alloc::Global;
-use std::collections::BTreeSet;
 
 /// A table of children: where it stands, and its entries.
 #[derive(Clone, Copy, Drop)]
@@ -128,7 +128,7 @@ pub fn look_at_entries<B: Blocks>(
     ensures cause { IfErr result (MayLackMemory (B.state blocks.old).faults
         (B.state blocks.new).faults) }
 {
-    let mut names: BTreeSet<[u8; 32]> = BTreeSet::new(alloc);
+    let mut names: KeySet<[u8; 32]> = KeySet::new(alloc);
     for position in 0..children {
         let at = table.entry(position);
         let bytes = match field_at(blocks, page, at) {
@@ -143,7 +143,7 @@ pub fn look_at_entries<B: Blocks>(
             return halt_at(24, at);
         }
         match names.insert(name) {
-            Ok(_) => {}
+            Ok(()) => {}
             Err(_) => return Err(Halt::Memory),
         }
     }

@@ -13,6 +13,7 @@ mod examine;
 mod fillers;
 mod gaps;
 mod head;
+mod keys;
 mod lists;
 mod look;
 mod marks;

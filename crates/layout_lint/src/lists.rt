@@ -3,7 +3,7 @@
 ghost use Rattle.std.specs.Prelude.{◌≡◌, ◌^◌, ◌+◌, ◌-◌, ◌≤◌, ◌<◌, ◌==◌, ◌++◌, [], ◌∷◌, ℕ, List, length, cond, true, map, None, Ok, IfOk, IfErr, IfSome, OnOk};
 ghost use Rattle.std.specs.List.{All};
 ghost use Rattle.std.specs.Ordering.{nat_cmp};
-ghost use Rattle.std.specs.BTreeSet.{contains};
+ghost use Rattle.layout_lint.specs.Keys.{contains};
 ghost use Rattle.cg_io.specs.Blocks.{ReadsFew};
 ghost use Rattle.adf_format.specs.Fields.{field};
 ghost use Rattle.adf_format.specs.Checks.{first_broken};
@@ -22,6 +22,7 @@ ghost use Rattle.adf_records.specs.View.{pointers_of, HasFreeOffsets};
 ghost use Rattle.disk_ptr.specs.View.{HasOffset};
 
 use crate::chunks::add_extent;
+use crate::keys::KeySet;
 use crate::marks::{Mark, look_at_start, look_at_tail, place_in, pointer_in};
 use crate::pages::Page;
 use crate::verdict::{Halt, Span, halt_at};
@@ -31,7 +32,6 @@ use adf_records::FreeTable;
 use cg_io::Blocks;
 use disk_ptr::{DiskPtr, place};
 use std::alloc::Global;
-use std::collections::BTreeSet;
 
 /// A list of free chunks: its first and its last chunk, and where the pointer to the last stands.
 #[derive(Clone, Copy, Drop)]
@@ -67,7 +67,7 @@ struct FreeChunk {
 // The free chunks found so far, with all other extents.
 #[derive(Drop)]
 struct Frees {
-    places: BTreeSet<u64>,
+    places: KeySet<u64>,
     extents: Vec<Extent>,
     used: u64,
 }
@@ -162,7 +162,7 @@ fn keep(frees: &mut Frees, at: u64, length: u64) -> Result<(), Halt>
     ensures want { IfErr result IsWant }
 {
     match frees.places.insert(at) {
-        Ok(_) => {}
+        Ok(()) => {}
         Err(_) => return Err(Halt::Memory),
     }
     match add_extent(&mut frees.extents, ExtentKind::FreeChunk, at, length) {
@@ -360,7 +360,7 @@ pub fn look_at_lists<B: Blocks>(
         (B.state blocks.new).faults) }
 {
     let mut frees = Frees {
-        places: BTreeSet::new(alloc),
+        places: KeySet::new(alloc),
         extents,
         used,
     };

@@ -12,6 +12,7 @@ ghost use Rattle.layout_lint.specs.Shapes.{IsSteady, IsWhole, IsGoing, MayFollow
 
 use crate::chunks::add_extent;
 use crate::head::{HEAD_LENGTH, Head};
+use crate::keys::KeySet;
 use crate::look::{Next, look};
 use crate::node::Met;
 use crate::pages::Page;
@@ -20,7 +21,6 @@ use crate::verdict::{Halt, NodePlace, Span};
 use adf_format::{Extent, ExtentKind};
 use cg_io::Blocks;
 use std::alloc::Global;
-use std::collections::BTreeSet;
 
 /// Where the walk stands.
 #[derive(Drop)]
@@ -30,7 +30,7 @@ pub struct Search {
     /// The nodes that were looked at.
     pub nodes: Vec<NodePlace>,
     /// Their places.
-    pub places: BTreeSet<u64>,
+    pub places: KeySet<u64>,
     /// All extents found so far.
     pub extents: Vec<Extent>,
     /// Their bytes.
@@ -62,7 +62,7 @@ fn start(alloc: Global) -> Result<Search, Halt>
     Ok(Search {
         families: Vec::new(alloc),
         nodes: Vec::new(alloc),
-        places: BTreeSet::new(alloc),
+        places: KeySet::new(alloc),
         extents,
         used: HEAD_LENGTH,
     })
@@ -74,7 +74,7 @@ fn keep(search: &mut Search, met: &Met) -> Result<(), Halt>
     ensures want { IfErr result IsWant }
 {
     match search.places.insert(met.place) {
-        Ok(_) => {}
+        Ok(()) => {}
         Err(_) => return Err(Halt::Memory),
     }
     let node = NodePlace {

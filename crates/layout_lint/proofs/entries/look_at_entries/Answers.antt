@@ -9,7 +9,7 @@ loop-position-init g c = record {
   ready = c.requires.ready;
   effect = reads_none 0 _;
   rest = λ image told within. rows_start image c.args.table.place c.args.children;
-  names = λ image told within q. rw c.new-names.ensures.empty;
+  names = λ image told within q. rw c.new-names.ensures;
 }
 
 pub returns-in-None-clause-rows : goal.returns-in-None-clause-rows
@@ -48,5 +48,5 @@ loop-position-preserved g c = record {
       let bytes = c.in-Ok.ensures.told image (c.loop-position.invariant.effect.held ∙ told) (omega arith) in
       let said = entry_said image t i c.entry-at.result c.in-Ok.bytes c.entry-at.ensures bytes in
       let some = some_value _ _ c.in-Some.name _ (c.name_in.ensures ∙ said) c.in-Some.is in
-      names_more image t i c.in-Some.name c.loop-position.names c.insert.new.self some.1 (c.loop-position.invariant.names image told within) c.in-Ok-insert.ensures.updates.0;
+      names_more image t i c.in-Some.name c.loop-position.names c.insert.new.self some.1 (c.loop-position.invariant.names image told within) c.in-Ok-insert.ensures;
 }

@@ -2,7 +2,7 @@ use Rattle.std.proofs.Common.{◌≡◌, ◌+◌, ◌-◌, ◌*◌, ◌≤◌, �
 use Rattle.std.specs.List.{range_with_len}
 use Rattle.std.specs.Ordering.{nat_cmp}
 use Rattle.std.specs.Cmp.Lexicographic.{slice_cmp}
-use Rattle.std.specs.BTreeSet.{contains}
+use Rattle.layout_lint.specs.Keys.{contains}
 use Rattle.cg_io.specs.Blocks.{ReadsFew}
 use Rattle.adf_format.specs.Checks.{first_broken}
 use Rattle.adf_format.specs.FirstFault.{entry_rows}
