@@ -5,3 +5,5 @@ pub mod RindLaws
 pub mod FieldLaws
 pub mod LimitLaws
 pub mod OverlapLaws
+pub mod EntryLaws
+pub mod PieceLaws

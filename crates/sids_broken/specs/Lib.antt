@@ -9,3 +9,5 @@ pub mod Fields
 pub mod Limits
 pub mod Overlaps
 pub mod OffsetParts
+pub mod Entries
+pub mod Pieces

@@ -1,5 +1,5 @@
 -- Tests of rules on what is looked at of a node before its data are read.
-use Rattle.std.specs.Prelude.{ℕ, Bool, not, ◌&&◌, ◌||◌, ◌==◌, nat_le, if◌then◌else◌, List, [], ◌∷◌, length, bytes_eq}
+use Rattle.std.specs.Prelude.{ℕ, Bool, not, ◌&&◌, ◌||◌, ◌==◌, nat_le, if◌then◌else◌, List, [], ◌∷◌, length, bytes_eq, is_some}
 use Rattle.adf_format.specs.declared.types.DataType.{DataType}
 use Rattle.adf_format.specs.declared.types.DataType.TheVariants.{Mt, I4, I8, C1}
 use Rattle.adf_format.specs.Names.{is_same_type, data_size}
@@ -19,6 +19,10 @@ shows_array kind dims view = shows_type kind view && bytes_eq view.dims dims && 
 -- of type I4 or I8, with data
 abbrev pub shows_ints : View → Bool
 shows_ints view = (shows_type I4 view || shows_type I8 view) && view.has_data
+
+-- I4 or I8
+abbrev pub is_ints_type : DataType → Bool
+is_ints_type kind = is_same_type kind I4 || is_same_type kind I8
 
 -- such numbers, of exactly these dimensions
 abbrev pub shows_ints_of : List ℕ → View → Bool
@@ -48,3 +52,7 @@ shows_points index view = shows_ints view && are_point_dims index view.dims
 abbrev pub shows_connected : Head → Range → View → Bool
 shows_connected head range view =
     shows_ints view && (length view.dims == 1) && not (is_count_off (fixed_nodes head.code) (element_count range) (first_dimension view.dims))
+
+-- such numbers, of elements with fixed nodes, that are looked at
+abbrev pub shows_fixed_list : Head → Range → View → Bool
+shows_fixed_list head range view = shows_connected head range view && shows_small view && is_some (fixed_nodes head.code)

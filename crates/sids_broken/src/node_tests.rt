@@ -1,8 +1,11 @@
 //! Tests on what is looked at of a node before its data are read.
 
-ghost use Rattle.std.specs.Prelude.{◌≡◌, ◌≤◌};
-ghost use Rattle.adf_format.specs.Names.{is_same_type};
-ghost use Rattle.sids_broken.specs.Shown.{shows_type, shows_array, shows_ints, shows_ints_of, shows_filled, shows_text, shown_index};
+ghost use Rattle.std.specs.Prelude.{◌≡◌, ◌≤◌, ◌&&◌, ◌∷◌, [], nat_le, true};
+ghost use Rattle.adf_format.specs.Names.{is_same_type, data_size};
+ghost use Rattle.adf_model.specs.Edits.{size_limit};
+ghost use Rattle.sids_rules.specs.Rules.{first_dimension};
+ghost use Rattle.sids_broken.specs.OffsetParts.{shows_list};
+ghost use Rattle.sids_broken.specs.Shown.{shows_type, shows_array, shows_ints, shows_ints_of, shows_filled, shows_text, shows_small, shown_index, is_ints_type};
 
 use adf_model::DataType;
 use sids_views::NodeView;
@@ -58,6 +61,48 @@ pub fn is_text(view: &NodeView) -> bool
     match view.dims() {
         &[length] => is_type(view, DataType::C1) && view.has_data() && length <= SIZE_LIMIT,
         _ => false,
+    }
+}
+
+/// Whether it is of whole numbers of one dimension with data.
+pub fn is_list(view: &NodeView) -> bool
+    ensures { result ≡ shows_list view.now }
+{
+    match view.dims() {
+        &[_] => is_ints(view),
+        _ => false,
+    }
+}
+
+/// Whether it is of whole numbers of one dimension with data, of at most 2^30 bytes.
+pub(crate) fn is_small_list(view: &NodeView) -> bool
+    ensures { result ≡ (shows_list view.now && shows_small view.now) }
+{
+    match view.dims() {
+        &[length] => is_ints(view) && has_few(view.kind(), length),
+        _ => false,
+    }
+}
+
+/// Whether so many whole numbers of a type have at most 2^30 bytes.
+fn has_few(kind: DataType, length: u64) -> bool
+    ensures { is_ints_type kind ≡ true → result ≡ nat_le (data_size kind (length ∷ [])) size_limit }
+{
+    length
+        <= if is_same_type(kind, DataType::I4) {
+            SIZE_LIMIT / 4
+        } else {
+            SIZE_LIMIT / 8
+        }
+}
+
+/// Its first dimension; 0 where it has none.
+pub(crate) fn first_dimension(view: &NodeView) -> u64
+    ensures { result ≡ first_dimension view.now.dims }
+{
+    match view.dims().first() {
+        Some(&length) => length,
+        None => 0,
     }
 }
 

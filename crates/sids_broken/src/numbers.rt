@@ -70,14 +70,14 @@ fn numbers_in(alloc: Global, format: Format, wide: bool, bytes: &[u8]) -> Result
     Ok(Numbers::new(numbers))
 }
 
-fn bytes_of(wide: bool) -> usize
+pub(crate) fn bytes_of(wide: bool) -> usize
     ensures { result ≡ bytes_of wide }
 {
     if wide { 8 } else { 4 }
 }
 
 /// The number with a sign in the first bytes.
-fn first_number(format: Format, wide: bool, bytes: &[u8]) -> i64
+pub(crate) fn first_number(format: Format, wide: bool, bytes: &[u8]) -> i64
     requires { bytes_of wide ≤ length bytes.now }
     ensures { result ≡ first_number format wide bytes.now }
 {

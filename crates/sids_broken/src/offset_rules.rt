@@ -8,9 +8,9 @@ ghost use Rattle.sids_views.specs.Asks.{IsValueOr, HasAskCause, IsPlain};
 ghost use Rattle.sids_views.specs.Views.{node_there};
 ghost use Rattle.sids_rules.specs.Terms.{section_range, is_range, element_count};
 ghost use Rattle.sids_rules.specs.OffsetRules.{offset_child, wants_offsets, has_offsets, has_offset_size};
-ghost use Rattle.sids_broken.specs.OffsetParts.{offset_there, offset_in, lacks_offsets, shows_list, shows_offset_size};
+ghost use Rattle.sids_broken.specs.OffsetParts.{offset_there, offset_in, lacks_offsets, shows_offset_size};
 
-use crate::node_tests::is_ints;
+use crate::node_tests::is_list;
 use crate::sections::{ElementRange, SectionHead, child_of_kind, range_in};
 use adf_model::{AdfError, NodeId, TreeCalls};
 use sids_tables::LabelKind;
@@ -148,16 +148,6 @@ fn offsets_at<C: TreeCalls>(calls: &mut C, at: NodeId) -> Result<Option<NodeId>,
             }
         }
         Err(error) => Err(error),
-    }
-}
-
-/// Whether it is of whole numbers of one dimension with data.
-fn is_list(view: &NodeView) -> bool
-    ensures { result ≡ shows_list view.now }
-{
-    match view.dims() {
-        &[_] => is_ints(view),
-        _ => false,
     }
 }
 
