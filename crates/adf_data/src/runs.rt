@@ -164,6 +164,7 @@ fn read_text<S: Space>(
     requires sane { All IsSane chunks.now }
     requires small { All (EndsIn element (2 ^ 30)) runs.now }
     ensures sound { S.is_sound space.new }
+    ensures long { IfOk result (λ text. length text.items ≡ run_bytes element runs.now) }
     ensures read { IfOk result (λ text. RunsRead (parts_of chunks.now) element runs.now text.items
         (S.image space.old)) }
     ensures image { S.image space.new ≡ S.image space.old }
@@ -199,6 +200,7 @@ pub fn read_runs<S: Space>(
     requires offset { HasOffset at.now.pointer }
     requires small { All (EndsIn element (2 ^ 30)) runs.now }
     ensures sound { S.is_sound space.new }
+    ensures long { IfOk result (λ text. length text ≡ element * length (spread runs.now)) }
     ensures read { IfOk result (λ text. (parts : NodeParts) (data' : List ℕ)
         → Holds at.now parts data' (S.image space.old)
         → All (EndsIn element (length data')) runs.now

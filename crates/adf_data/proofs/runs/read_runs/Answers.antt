@@ -1,4 +1,4 @@
-use Rattle.std.proofs.Common.{◌≡◌, ℕ, List, ◌∙◌, sym, subst}
+use Rattle.std.proofs.Common.{◌≡◌, ℕ, List, length, ◌∙◌, ap, sym, subst}
 use Rattle.std.specs.Prelude.{Option}
 use Rattle.adf_format.specs.Placement.{NodeParts}
 use Rattle.adf_model.specs.declared.lists.Run.{Run}
@@ -6,8 +6,9 @@ use Rattle.adf_data.specs.declared.chunks.Chunk.{Chunk}
 use Rattle.std.specs.List.{All}
 use Rattle.adf_format.specs.HeapRule.{payload_length}
 use Rattle.adf_data.specs.Chunks.{parts_of, Named, NoneNamed}
-use Rattle.adf_data.specs.Runs.{EndsIn, NoRuns, RunsRead}
+use Rattle.adf_data.specs.Runs.{EndsIn, NoRuns, RunsRead, run_bytes}
 use Rattle.cg_io.proofs.ReadLaws.{refused_for, refused_later}
+use Rattle.adf_data.proofs.WriteLaws.{bytes_of_spread}
 use Rattle.adf_data.proofs.DataLaws.{unnamed_runs, unread_runs, elements_read}
 use Rattle.adf_data.proofs.runs.read_runs.Goals as goal
 
@@ -26,6 +27,10 @@ returns-in-Ok-read_text-clause-read g c = λ parts data' h all.
     (subst (λ (i : Option (List ℕ)). RunsRead (parts_of c.deref.result.now) c.args.element c.args.runs.now c.in-Ok-read_text.text.items i) c.list_chunks.ensures.image
     (subst (λ (rs : List Run). RunsRead (parts_of c.deref.result.now) c.args.element rs c.in-Ok-read_text.text.items (g.S.ReadBytes.image c.list_chunks.new.space)) c.items.ensures c.in-Ok-read_text.ensures.read))
     parts data' h all
+
+pub returns-in-Ok-read_text-clause-long : goal.returns-in-Ok-read_text-clause-long
+returns-in-Ok-read_text-clause-long g c =
+    ap length c.new.ensures ∙ c.in-Ok-read_text.ensures.long ∙ ap (run_bytes c.args.element) c.items.ensures ∙ sym (bytes_of_spread c.args.element c.args.runs.now)
 
 pub returns-clause-cause : goal.returns-clause-cause
 returns-clause-cause g c =
