@@ -13,3 +13,4 @@ pub mod StandLaws
 pub mod RefusedEdit
 pub mod DoneAmong
 pub mod FileSteps
+pub mod GroupEnds

@@ -3,7 +3,6 @@ use Rattle.std.specs.Prelude.{◌≡◌, ◌≢◌, ◌⊎◌, ℕ, ◌+◌, ◌
 use Rattle.std.specs.List.{AllByRecursion}
 use Rattle.adf_format.specs.Tree.{Tree}
 use Rattle.adf_format.specs.Placement.{Placement}
-use Rattle.adf_format.specs.LaysOut.{LaysOut}
 use Rattle.adf_format.specs.HeapRule.{place_edit}
 use Rattle.adf_model.specs.declared.error.AdfError.{AdfError}
 use Rattle.adf_model.specs.declared.error.AdfError.TheVariants.{Memory, ReadFault, Full}
@@ -77,11 +76,10 @@ pub record IsStepRefusal (before : Files) (was : ℕ → FileWork) (number : ℕ
 
 -- ---- what is committed
 
--- What waits in a file is committed: its device holds the tree in work, with its parts where they were put; and it keeps what the edits do not touch.
-pub record IsCommitted (was : Open) (tree : Tree) (work : FileWork) (before now : Device) : Type 0 where
+-- What waits in a file is committed: its parts stand where they were put, it is written at most as often as that costs, and it keeps what the edits do not touch.
+pub record IsCommitted (was : Open) (work : FileWork) (before now : Device) : Type 0 where
   pub cost : now.writes ≤ before.writes + work.cost
   pub placed : now.placement ≡ work.placement
-  pub laid_out : (old new : List ℕ) → before.held ≡ Some old → now.held ≡ Some new → LaysOut new tree work.placement
   pub rest : (old new : List ℕ) → before.held ≡ Some old → now.held ≡ Some new
       → KeepsRest was.limit was.tree before.placement work.done work.placement old new × KeepsTail work.placement.heap.end old new
 

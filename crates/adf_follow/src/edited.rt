@@ -5,7 +5,7 @@ ghost use Rattle.adf_model.specs.declared.error.AdfError.{AdfError};
 ghost use Rattle.adf_model.specs.Edits.{named_nodes};
 ghost use Rattle.adf_model.specs.Calls.{tests_at_entry};
 ghost use Rattle.adf_model.specs.Slots.{Open, Slot, Standing, standing_of, open_at, slot_at, with_slot, device_at};
-ghost use Rattle.adf_model.specs.Steps.{OthersOnlyRead, OthersStayPlaced, WriteFailed};
+ghost use Rattle.adf_model.specs.Steps.{OthersOnlyRead, OthersStayPlaced, WriteFailed, IsLaidOutAt};
 ghost use Rattle.adf_model.specs.Tests.{checked};
 ghost use Rattle.adf_follow.specs.Groups.{at_rest, OnlyWaits, with_there, IsStepped, IsStepRefusal, IsCommitted, IsTornCommit};
 ghost use Rattle.adf_follow.specs.Looking.{IsToldIn, HasStepCause};
@@ -38,6 +38,8 @@ pub trait EditedFiles: OpenFiles {
             (Self.devices self.new) (Self.files self.new) }
         ensures others { (n : ℕ) → n ≢ number → (Self.pending self.new).work n
             ≡ (Self.pending self.old).work n }
+        ensures only { Self.files self.new ≡ with_slot (Self.files self.old) number
+            (slot_at (Self.files self.new) number) }
         ensures editing { OnOk result
             (standing_of (slot_at (Self.files self.old) number) ≡ Standing.Editing) }
         ensures done { IfOk result (λ serial. IsToldIn (Self.files self.old) (Self.devices self.old)
@@ -76,13 +78,15 @@ pub trait EditedFiles: OpenFiles {
             (Self.devices self.new) }
         ensures failed { OnErr result (WriteFailed (device_at (Self.devices self.old) number)
             (device_at (Self.devices self.new) number)) }
+        ensures layouts { IsLaidOutAt (slot_at (Self.pending self.old).kept number)
+            (device_at (Self.devices self.old) number) → IsLaidOutAt
+            (slot_at (Self.pending self.new).kept number) (device_at (Self.devices self.new) number) }
         ensures told { IsToldIn (Self.files self.old) (Self.devices self.old) number → IsToldIn
             (Self.files self.new) (Self.devices self.new) number }
-        ensures committed { OnOk result ((was opened : Open) → IsToldIn (Self.files self.old)
+        ensures committed { OnOk result ((was : Open) → IsToldIn (Self.files self.old)
             (Self.devices self.old) number → open_at (Self.pending self.old).kept number ≡ Some was
-            → open_at (Self.files self.old) number ≡ Some opened → IsCommitted was opened.tree
-            ((Self.pending self.old).work number) (device_at (Self.devices self.old) number)
-            (device_at (Self.devices self.new) number)) }
+            → IsCommitted was ((Self.pending self.old).work number)
+            (device_at (Self.devices self.old) number) (device_at (Self.devices self.new) number)) }
         ensures torn { OnErr result ((was opened : Open) → IsToldIn (Self.files self.old)
             (Self.devices self.old) number → open_at (Self.pending self.old).kept number ≡ Some was
             → open_at (Self.files self.old) number ≡ Some opened → IsTornCommit was opened.tree

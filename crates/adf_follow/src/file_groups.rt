@@ -18,9 +18,9 @@ ghost use Rattle.adf_model.specs.FileGroup.{IsFileGroup};
 pub fn file_groups_are_steps()
     ensures { (files : Files) (before now : Devices) (edits : List Edit)
         (result : Result (List NodeId) EditError) (slot : Slot)
-        (told : EditsTold files before edits) → IsTree told.opened.tree → IsLaidOutAt (Live told.opened)
-        (device_at before told.number) → OthersOnlyRead (Some told.number) before now
-        → OthersStayPlaced (Some told.number) before now → IsFileGroup (Live told.opened)
+        (told : EditsTold files before edits) → IsTree told.opened.tree → IsLaidOutAt
+        (Live told.opened) (device_at before told.number) → OthersOnlyRead (Some told.number) before
+        now → OthersStayPlaced (Some told.number) before now → IsFileGroup (Live told.opened)
         (device_at before told.number) edits result (device_at now told.number) slot → Step files
         before (Changed edits result) now (with_slot files told.number slot) }
 {}
