@@ -1,23 +1,23 @@
 -- One edit of a group: where it leads, and what is done.
-use Rattle.std.proofs.Common.{◌≡◌, ◌⊎◌, inl, inr, ℕ, false, not, List, [], ◌∷◌, refl, sym, ◌∙◌, ap, subst, arith}
+use Rattle.std.proofs.Common.{◌≡◌, ◌⊎◌, inl, inr, ℕ, Bool, true, false, not, List, [], ◌∷◌, refl, sym, ◌∙◌, ap, subst, arith}
 use Rattle.std.specs.Prelude.{Option, Some, None, IsSome, Ok, Err, ◌==◌}
 use Rattle.std.specs.List.{list_any, AllByRecursion}
 use Rattle.adf_model.specs.declared.error.AdfError.{AdfError}
-use Rattle.adf_model.specs.declared.error.AdfError.TheVariants.{LinkMissing}
+use Rattle.adf_model.specs.declared.error.AdfError.TheVariants.{LinkMissing, NoSuchNode, ReadOnly}
 use Rattle.adf_model.specs.declared.tree.Edit.{Edit}
 use Rattle.adf_model.specs.declared.tree.Edit.TheVariants.{Create, Delete, Rename, Move, SetLabel, SetDims, PutAll, PutPart, Link}
 use Rattle.adf_model.specs.declared.tree.NodeId.{NodeId}
-use Rattle.adf_model.specs.Tests.{and_then}
-use Rattle.adf_model.specs.Edits.{named_nodes, followed, with_followed, names_link}
-use Rattle.adf_format.specs.Tree.{node_at}
+use Rattle.adf_model.specs.Tests.{checked, and_then}
+use Rattle.adf_model.specs.Edits.{apply, named_nodes, followed, with_followed, names_link}
+use Rattle.adf_format.specs.Tree.{node_at, is_live}
 use Rattle.adf_model.specs.Slots.{Open, Files, Devices, open_at}
 use Rattle.adf_model.specs.Follow.{Spot, reach, text_of_open, link_text_at}
 use Rattle.adf_model.specs.OneFile.{StandsIn}
 use Rattle.adf_model.specs.Calls.{is_live_in, tests_at_entry, resolved, resolve}
 use Rattle.adf_model.specs.Causes.{OnlyAsks}
 use Rattle.adf_model.proofs.Basics.{same_Ok, same_Some, not_there, done, or_none, not_false, equal}
-use Rattle.adf_model.proofs.Following.StepTests.{followed_same}
-use Rattle.adf_model.proofs.Following.OneFileLaws.{no_text}
+use Rattle.adf_model.proofs.Following.StepTests.{followed_same, step_tests}
+use Rattle.adf_model.proofs.Following.OneFileLaws.{no_text, entry_tests}
 use Rattle.adf_follow.specs.Groups.{FileWork, with_there, led_from, led_to, AreOpen, IsEditTold, IsToldBy, IsStepped, IsDone}
 use Rattle.adf_follow.specs.Looking.{IsToldIn, IsToldFrom, IsWalked, HasWalkCause, as_is}
 use Rattle.adf_follow.proofs.Looks.{told_in_on, passed_on}
@@ -103,15 +103,29 @@ leads_there files edit there e = by_followed (followed edit) e
         let r = done (reach files node) (λ there. Ok (Some there)) there e in
         ap (λ r. and_then r (λ there. Ok (with_followed edit there))) r.1 ∙ ap (λ t. Ok (with_there edit t)) (same_Ok r.2)
 
-module _ (files : Files) (before : Devices) (edit : Edit) where
+module _ (files : Files) (before : Devices) (edit : Edit) (entry : Passed (tests_at_entry files (named_nodes edit))) where
   -- ---- where it leads
 
   -- no link is met
+  no_link : (one : IsEditTold files before edit) → names_link one.opened.tree (followed edit) ≡ false
+  no_link one = by_link (names_link one.opened.tree (followed edit)) refl
+    where
+      none_dead : list_any (λ (node : NodeId). not (is_live one.opened.tree node.serial)) (named_nodes edit) ≡ false
+      none_dead = (passes ((list_any (λ (node : NodeId). not (is_live one.opened.tree node.serial)) (named_nodes edit), NoSuchNode) ∷ []) (entry ∙ entry_tests files one.number one.opened one.live (named_nodes edit) one.stands (Ok tt))).0
+
+      by_link : (b : Bool) → names_link one.opened.tree (followed edit) ≡ b → names_link one.opened.tree (followed edit) ≡ false
+      by_link false is = is
+      by_link true is = absurd (one.no_link (
+          step_tests one.opened.writable one.opened.tree edit
+          ∙ ap (λ (d : Bool). checked ((d, NoSuchNode) ∷ (names_link one.opened.tree (followed edit), LinkMissing) ∷ (not one.opened.writable, ReadOnly) ∷ []) (apply one.opened.tree edit)) none_dead
+          ∙ ap (λ (l : Bool). checked ((l, LinkMissing) ∷ (not one.opened.writable, ReadOnly) ∷ []) (apply one.opened.tree edit)) is
+          ))
+
   plain : (one : IsEditTold files before edit) (node : NodeId) → followed edit ≡ Some node → link_text_at files node ≡ None
   plain one node e =
       let at = followed_has (λ (n : NodeId). n.file ≡ one.number) edit node one.stands e in
       ap (λ (o : Option Open). text_of_open o node.serial) (ap (open_at files) at ∙ one.live)
-      ∙ no_text (node_at one.opened.tree node.serial) (ap (names_link one.opened.tree) (sym e) ∙ one.no_link)
+      ∙ no_text (node_at one.opened.tree node.serial) (ap (names_link one.opened.tree) (sym e) ∙ no_link one)
 
   from_told : (node : NodeId) → followed edit ≡ Some node → IsToldBy files before edit → IsToldFrom files before node
   from_told node e told = elim told [
@@ -119,9 +133,8 @@ module _ (files : Files) (before : Devices) (edit : Edit) where
     | inr one ↦ inr (subst (IsToldIn files before) (sym (followed_has (λ (n : NodeId). n.file ≡ one.number) edit node one.stands e)) one.told, plain one node e)
   ]
 
-  pub leads_on : (now : Devices) (node there : NodeId) → followed edit ≡ Some node → IsWalked (IsToldFrom files before node) LinkMissing files before now as_is (reach files node) (Ok there)
-      → IsWalked (IsToldBy files before edit) LinkMissing files before now as_is (led_to files edit) (Ok (Some there))
-  leads_on now node there e h told = ap (led_from files) e ∙ ap (λ r. and_then r (λ (there : NodeId). Ok (Some there))) (h (from_told node e told))
+  pub leads_on : (node there : NodeId) → followed edit ≡ Some node → (IsToldFrom files before node → reach files node ≡ Ok there) → IsToldBy files before edit → led_to files edit ≡ Ok (Some there)
+  leads_on node there e h told = ap (led_from files) e ∙ ap (λ r. and_then r (λ (there : NodeId). Ok (Some there))) (h (from_told node e told))
 
   pub leads_nowhere : (now : Devices) (node : NodeId) (error : AdfError) → followed edit ≡ Some node → IsWalked (IsToldFrom files before node) LinkMissing files before now as_is (reach files node) (Err error)
       → IsWalked (IsToldBy files before edit) LinkMissing files before now as_is (led_to files edit) (Err error)
@@ -151,10 +164,10 @@ module _ (files : Files) (before : Devices) (edit : Edit) where
   -- ---- what is done
 
   pub one_done : (mid after : Files) (first : Devices) (was waiting work : ℕ → FileWork) (group : Option ℕ) (there : Option NodeId) (number : ℕ) (serial : Option ℕ) → OnlyAsks files before first mid → waiting ≡ was
-      → Passed (tests_at_entry files (named_nodes edit)) → (IsToldBy files before edit → led_to files edit ≡ Ok there) → (group ≡ None) ⊎ (group ≡ Some number)
+      → (IsToldBy files before edit → led_to files edit ≡ Ok there) → (group ≡ None) ⊎ (group ≡ Some number)
       → list_any (λ (node : NodeId). not (node.file == number)) (named_nodes (with_there edit there)) ≡ false
       → (IsToldIn mid first number → IsStepped mid after waiting work number (with_there edit there) serial) → IsToldBy files before edit → IsDone files after was work group edit number serial
-  one_done mid after first was waiting work group there number serial leaves still entry led own near stepped told =
+  one_done mid after first was waiting work group there number serial leaves still led own near stepped told =
       let stands : StandsIn number (with_there edit there) = all_there number (named_nodes (with_there edit there)) near in
       record {
         reached = with_there edit there;

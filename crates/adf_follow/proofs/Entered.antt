@@ -43,6 +43,17 @@ passes_refused tests e = none_refuses tests (passes tests e)
 pub passes_checked : {A : Type 0} (tests : List Test) (r : Result A AdfError) → Passed tests → checked tests r ≡ r
 passes_checked tests r e = none_checked tests r (passes tests e)
 
+pub refused_passes : (tests : List Test) → first_refusal tests ≡ None → Passed tests
+refused_passes [] e = refl
+refused_passes (test ∷ tests) e = by_test test.0 e (refused_passes tests)
+  where
+    some_none : (x : AdfError) → ◌≡◌ {A = Option AdfError} (Some x) None → ⊥
+    some_none x e = cc
+
+    by_test : (b : Bool) → (if b then Some test.1 else first_refusal tests) ≡ None → (first_refusal tests ≡ None → Passed tests) → ◌≡◌ {A = Result (Unit {0}) AdfError} (Ok tt) (if b then Err test.1 else checked tests (Ok tt))
+    by_test true e later = absurd (some_none test.1 e)
+    by_test false e later = later e
+
 -- what follows a refusal does not matter
 pub fails_checked : {A : Type 0} (tests : List Test) (r : Result A AdfError) (error : AdfError) → Fails tests error → checked tests r ≡ Err error
 fails_checked [] r error e = absurd (not_passed error e)

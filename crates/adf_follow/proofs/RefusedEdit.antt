@@ -143,8 +143,8 @@ module _ (files : Files) (was : ℕ → FileWork) (group : Option ℕ) (edit : E
           by_error x plain opened here why = λ g same of_group. as_many g opened x same of_group here plain why ∙ ap (λ r. and_then r (λ (tree : Tree). Ok (group_after g number opened reached tree))) why
 
 -- where an edit is told, what is open are trees, or it is one of its own nodes
-pub trees_or_own : (files : Files) (before : Devices) (edit : Edit) (there : Option NodeId) → led_to files edit ≡ Ok there → IsToldBy files before edit → AreTrees files ⊎ (with_there edit there ≡ edit)
-trees_or_own files before edit there led told = elim told [ inl all ↦ inl all.1 | inr one ↦ inr (itself files before edit one there led) ]
+pub trees_or_own : (files : Files) (before : Devices) (edit : Edit) → Passed (tests_at_entry files (named_nodes edit)) → (there : Option NodeId) → led_to files edit ≡ Ok there → IsToldBy files before edit → AreTrees files ⊎ (with_there edit there ≡ edit)
+trees_or_own files before edit entry there led told = elim told [ inl all ↦ inl all.1 | inr one ↦ inr (itself files before edit entry one there led) ]
 
 -- no step is refused for a link
 pub step_plain : (files : Files) (edit : Edit) (number : ℕ) (before now : Devices) (error : AdfError) → HasStepCause files edit number before now error → error ≢ LinkMissing
@@ -265,8 +265,8 @@ done_anyway files mid was waiting work group edit there number same still entry 
 }
 
 -- a step of the file that was asked after its links
-pub told_refusal : (files mid : Files) (before first : Devices) (was waiting : ℕ → FileWork) (edit : Edit) (there : Option NodeId) (number : ℕ) (error : AdfError) → OnlyAsks files before first mid → waiting ≡ was → led_to files edit ≡ Ok there
+pub told_refusal : (files mid : Files) (before first : Devices) (was waiting : ℕ → FileWork) (edit : Edit) → Passed (tests_at_entry files (named_nodes edit)) → (there : Option NodeId) (number : ℕ) (error : AdfError) → OnlyAsks files before first mid → waiting ≡ was → led_to files edit ≡ Ok there
     → StandsIn number (with_there edit there) → (IsToldIn mid first number → IsStepRefusal mid waiting number (with_there edit there) error) → IsToldBy files before edit → IsStepRefusal files was number (with_there edit there) error
-told_refusal files mid before first was waiting edit there number error leaves still led stands refused told =
+told_refusal files mid before first was waiting edit entry there number error leaves still led stands refused told =
     subst (λ w. IsStepRefusal files w number (with_there edit there) error) still (subst (λ f. IsStepRefusal f waiting number (with_there edit there) error) leaves.files_stay
-    (refused (told_in_on files mid before first number leaves (told_there files before edit there number led stands told))))
+    (refused (told_in_on files mid before first number leaves (told_there files before edit entry there number led stands told))))

@@ -5,11 +5,11 @@ use Rattle.adf_format.specs.Tree.{Tree}
 use Rattle.adf_format.specs.Placement.{Placement}
 use Rattle.adf_format.specs.HeapRule.{place_edit}
 use Rattle.adf_model.specs.declared.error.AdfError.{AdfError}
-use Rattle.adf_model.specs.declared.error.AdfError.TheVariants.{Memory, ReadFault, Full}
+use Rattle.adf_model.specs.declared.error.AdfError.TheVariants.{Memory, ReadFault, LinkMissing, Full}
 use Rattle.adf_model.specs.declared.tree.Edit.{Edit}
 use Rattle.adf_model.specs.declared.tree.NodeId.{NodeId}
 use Rattle.adf_model.specs.Tests.{and_then, first_refusal}
-use Rattle.adf_model.specs.Edits.{named_nodes, followed, names_link, with_followed, created_by, file_step}
+use Rattle.adf_model.specs.Edits.{named_nodes, followed, with_followed, created_by, file_step}
 use Rattle.adf_model.specs.Need.{cost}
 use Rattle.adf_model.specs.Placing.{placed_as, place_group, chunk_number, group_cost}
 use Rattle.adf_model.specs.Untouched.{KeepsRest, KeepsTail}
@@ -119,7 +119,7 @@ pub record IsEditTold (files : Files) (devices : Devices) (edit : Edit) : Type 0
   pub live : open_at files number ≡ Some opened
   pub told : IsToldIn files devices number
   pub stands : StandsIn number edit
-  pub no_link : names_link opened.tree (followed edit) ≡ false
+  pub no_link : file_step opened.writable opened.tree edit ≢ Err LinkMissing
 
 -- the devices that an edit may touch tell what they hold, and what is open are trees
 abbrev pub IsToldBy : Files → Devices → Edit → Type 0

@@ -1,8 +1,9 @@
 //! One edit of a group, through links.
 
-ghost use Rattle.std.specs.Prelude.{◌≡◌, ◌==◌, ℕ, true, not, Some, is_some, IsSome, unwrap_or, IfOk, IfErr, OnErr};
+ghost use Rattle.std.specs.Prelude.{◌≡◌, ◌==◌, ℕ, true, not, Some, None, is_some, IsSome, None, unwrap_or, IfOk, IfErr, OnErr};
 ghost use Rattle.std.specs.List.{list_any};
-ghost use Rattle.adf_model.specs.Calls.{file_of};
+ghost use Rattle.adf_model.specs.Calls.{file_of, tests_at_entry};
+ghost use Rattle.adf_model.specs.Tests.{first_refusal};
 ghost use Rattle.adf_model.specs.Edits.{named_nodes, followed};
 ghost use Rattle.adf_model.specs.Slots.{open_at};
 ghost use Rattle.adf_model.specs.Causes.{OnlyAsks};
@@ -66,7 +67,9 @@ pub fn edit_one<F: EditedFiles>(
 
 // The node that an edit follows, once its links are followed.
 fn lead<F: OpenFiles>(alloc: Global, files: &mut F, edit: &Edit) -> Result<Option<NodeId>, AdfError>
-    requires { F.is_ready files.old }
+    requires ready { F.is_ready files.old }
+    requires entered { first_refusal (tests_at_entry (F.files files.old) (named_nodes edit.now))
+        ≡ None }
     ensures ready { F.is_ready files.new }
     ensures pending { F.pending files.new ≡ F.pending files.old }
     ensures leaves { OnlyAsks (F.files files.old) (F.devices files.old) (F.devices files.new)

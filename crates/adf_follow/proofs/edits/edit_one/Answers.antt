@@ -1,9 +1,14 @@
 use Rattle.std.proofs.Common.{◌∙◌, sym, ap, refl, inl}
 use Rattle.adf_model.specs.Edits.{named_nodes}
+use Rattle.adf_model.specs.Calls.{tests_at_entry}
 use Rattle.adf_follow.specs.Groups.{Pending}
+use Rattle.adf_follow.proofs.Entered.{passes_refused}
 use Rattle.adf_follow.proofs.DoneEdit.{all_there, entered_open, open_there, one_done}
 use Rattle.adf_follow.proofs.RefusedEdit.{entry_refuses, link_refuses, other_refuses, step_refuses, trees_or_own, step_plain, told_refusal, group_own, group_opens, entry_anyway, link_anyway, other_anyway, step_anyway, step_undone, done_anyway}
 use Rattle.adf_follow.proofs.edits.edit_one.Goals as goal
+
+pub lead-requires-clause-entered : goal.lead-requires-clause-entered
+lead-requires-clause-entered g c = passes_refused (tests_at_entry (g.F.OpenFiles.files c.args.files.now) (named_nodes c.args.edit.now)) c.in-Ok.ensures
 
 pub step-requires-clause-opened : goal.step-requires-clause-opened
 step-requires-clause-opened g c =
@@ -62,8 +67,8 @@ returns-in-Err-step-clause-refused g c = λ told.
     let led = c.in-Ok-lead.ensures.found told in
     let stands = all_there c.group_file-number.result _ (sym c.is_elsewhere.ensures ∙ c.if-is_elsewhere.false) in
     step_refuses _ _ c.args.group c.args.edit.now c.in-Ok.ensures c.in-Ok-lead.there c.group_file-number.result led (group_own c.args.group _ c.group_file-number.result c.group_file-number.ensures) stands
-    (trees_or_own _ _ c.args.edit.now c.in-Ok-lead.there led told) c.in-Err-step.error (step_plain _ c.args.edit.now c.group_file-number.result _ _ c.in-Err-step.error c.in-Err-step.ensures.cause)
-    (told_refusal _ _ _ _ _ _ c.args.edit.now c.in-Ok-lead.there c.group_file-number.result c.in-Err-step.error c.lead.ensures.leaves (ap (λ (p : Pending). p.work) c.lead.ensures.pending) led stands c.in-Err-step.ensures.refused told)
+    (trees_or_own _ _ c.args.edit.now c.in-Ok.ensures c.in-Ok-lead.there led told) c.in-Err-step.error (step_plain _ c.args.edit.now c.group_file-number.result _ _ c.in-Err-step.error c.in-Err-step.ensures.cause)
+    (told_refusal _ _ _ _ _ _ c.args.edit.now c.in-Ok.ensures c.in-Ok-lead.there c.group_file-number.result c.in-Err-step.error c.lead.ensures.leaves (ap (λ (p : Pending). p.work) c.lead.ensures.pending) led stands c.in-Err-step.ensures.refused told)
 
 pub returns-in-Err-step-clause-cause : goal.returns-in-Err-step-clause-cause
 returns-in-Err-step-clause-cause g c = step_anyway _ _ _ c.args.edit.now _ _ c.group_file-number.result c.in-Err-step.error c.lead.ensures.leaves c.in-Ok.ensures c.in-Err-step.ensures.cause
@@ -84,6 +89,6 @@ returns-in-Ok-step-clause-anyway g c =
 
 pub returns-in-Ok-step-clause-done : goal.returns-in-Ok-step-clause-done
 returns-in-Ok-step-clause-done g c =
-    one_done _ _ c.args.edit.now _ _ _ _ _ _ c.args.group c.in-Ok-lead.there c.group_file-number.result c.in-Ok-step.serial c.lead.ensures.leaves (ap (λ (p : Pending). p.work) c.lead.ensures.pending) c.in-Ok.ensures c.in-Ok-lead.ensures.found
+    one_done _ _ c.args.edit.now c.in-Ok.ensures _ _ _ _ _ _ c.args.group c.in-Ok-lead.there c.group_file-number.result c.in-Ok-step.serial c.lead.ensures.leaves (ap (λ (p : Pending). p.work) c.lead.ensures.pending) c.in-Ok-lead.ensures.found
     (group_own c.args.group _ c.group_file-number.result c.group_file-number.ensures)
     (sym c.is_elsewhere.ensures ∙ c.if-is_elsewhere.false) c.in-Ok-step.ensures.done
