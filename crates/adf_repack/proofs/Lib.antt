@@ -3,3 +3,4 @@ pub mod PlaceLaws
 pub mod FamilyLaws
 pub mod CopyLaws
 pub mod AppendLaws
+pub mod SourceLaws

@@ -2,3 +2,4 @@ pub mod Writers
 pub mod Places
 pub mod Families
 pub mod Copies
+pub mod Sources

@@ -8,6 +8,7 @@ mod families;
 mod headers;
 mod places;
 mod puts;
+mod source;
 mod writer;
 
 pub use families::{Families, families_of};
@@ -17,4 +18,5 @@ pub use puts::{
     put, put_chunk_end, put_chunk_head, put_entry, put_head, put_header, put_table_end,
     put_table_head,
 };
+pub use source::{Page, bytes_at, read_at};
 pub use writer::BlockWriter;
