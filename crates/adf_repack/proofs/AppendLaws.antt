@@ -7,7 +7,7 @@ use Rattle.adf_repack.specs.Writers.{with_more, blocks_in, state_under, appended
 use Rattle.adf_repack.specs.Copies.{Appends, IsUnwritten}
 use Rattle.adf_repack.proofs.WriterLaws.{more_then, writes_then}
 
-only_then : (s t u : DeviceState) → OnlyWrites s t → OnlyWrites t u → OnlyWrites s u
+pub only_then : (s t u : DeviceState) → OnlyWrites s t → OnlyWrites t u → OnlyWrites s u
 only_then s t u first then = record { reads = then.reads ∙ first.reads; writes = omega (arith, first.writes, then.writes) }
 
 unwritten_then : (s t u : DeviceState) (e : AdfError) → s.faults ≤ t.faults → s.lost ≤ t.lost → IsUnwritten t u e → IsUnwritten s u e

@@ -1,5 +1,5 @@
 -- What is written of a node, by its header as it was read, and what appending it does.
-use Rattle.std.specs.Prelude.{◌≡◌, ℕ, ◌+◌, ◌==◌, ◌≤◌, Bool, not, cond, List, length, take, is_some, Result, OnOk, IfErr}
+use Rattle.std.specs.Prelude.{◌≡◌, ◌⊎◌, ℕ, ◌+◌, ◌==◌, ◌≤◌, Bool, not, cond, List, length, take, is_some, Some, Result, OnOk, IfErr}
 use Rattle.adf_format.specs.Fields.{text_field}
 use Rattle.adf_format.specs.Pointer.{Pointer, Blank, To}
 use Rattle.adf_format.specs.Parts.{node_length}
@@ -13,6 +13,9 @@ use Rattle.layout_lint.specs.Nodes.{numbers_of}
 use Rattle.packed_laws.specs.PackedForm.{packed_dims, packed_parts, packed_record}
 use Rattle.adf_repack.specs.declared.places.NodeShape.{NodeShape}
 use Rattle.adf_repack.specs.declared.writer.BlockWriter.{BlockWriter}
+use Rattle.adf_model.specs.Counts.{OnlyReads}
+use Rattle.adf_repack.specs.declared.source.Page.{Page}
+use Rattle.adf_repack.specs.Sources.{IsReady, IsUnread}
 use Rattle.adf_repack.specs.Places.{table_room, shape_of}
 use Rattle.adf_repack.specs.Writers.{IsWriter, appended_in, with_more, count_in, blocks_in, state_under, WritesBlocks, OnlyWrites}
 
@@ -68,3 +71,18 @@ pub record Appends {E : Type 0} (state : E → DeviceState) (bytes : List ℕ) (
   pub later : (state_under state old).faults ≤ (state_under state new).faults
   pub lost : (state_under state old).lost ≤ (state_under state new).lost
   pub cause : IfErr result (IsUnwritten (state_under state old) (state_under state new))
+
+-- As many bytes as these of the file are appended, and where it tells its bytes these; or a read of it or a write of the device failed. The file
+-- is only read.
+pub record Copies {B E : Type 0} (is_sound : B → Type 0) (source : B → DeviceState) (target : E → DeviceState) (n : ℕ) (text : List ℕ → List ℕ)
+    (before after : B) (page : Page) (old new : BlockWriter E) (result : Result Unit AdfError) : Type 0 where
+  pub ready : IsReady (is_sound after) (source after).held page
+  pub reads : OnlyReads (source before) (source after)
+  pub sound : OnOk result (IsWriter target new)
+  pub appended : OnOk result ((image : List ℕ) → (source before).held ≡ Some image → appended_in target new ≡ with_more (appended_in target old) (text image))
+  pub count : OnOk result (count_in new ≡ count_in old + n)
+  pub wrote : OnOk result (WritesBlocks (blocks_in old) (blocks_in new) (state_under target old) (state_under target new))
+  pub effect : OnlyWrites (state_under target old) (state_under target new)
+  pub later : (state_under target old).faults ≤ (state_under target new).faults
+  pub lost : (state_under target old).lost ≤ (state_under target new).lost
+  pub cause : IfErr result (λ e. IsUnread (source before).faults (source after).faults e ⊎ IsUnwritten (state_under target old) (state_under target new) e)

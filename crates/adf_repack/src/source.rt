@@ -12,7 +12,7 @@ use cg_io::{Blocks, overwrite};
 #[derive(Drop)]
 pub struct Page {
     number: Option<u32>,
-    bytes: [u8; 4096],
+    pub(crate) bytes: [u8; 4096],
 }
 
 impl Page {
@@ -28,7 +28,7 @@ impl Page {
 }
 
 // Turns to a block, by at most one read.
-fn turn_to<B: Blocks>(blocks: &mut B, page: &mut Page, n: u32) -> Result<(), AdfError>
+pub(crate) fn turn_to<B: Blocks>(blocks: &mut B, page: &mut Page, n: u32) -> Result<(), AdfError>
     requires { IsReady (B.is_sound blocks.old) (B.state blocks.old).held page.old }
     ensures ready { IsReady (B.is_sound blocks.new) (B.state blocks.new).held page.new }
     ensures told { OnOk result (Gives (B.state blocks.old).held n page.new.bytes) }

@@ -1,4 +1,4 @@
-use Rattle.std.proofs.Common.{◌≡◌, ◌+◌, ◌/◌, ◌%◌, length, arith, rules, refl}
+use Rattle.std.proofs.Common.{◌≡◌, ◌+◌, ◌/◌, ◌%◌, length, arith, refl}
 use Rattle.cg_io.specs.Device.{Gives}
 use Rattle.cg_io.proofs.PieceLaws.{read_step, read_whole}
 use Rattle.adf_repack.proofs.SourceLaws.{reads_then}
