@@ -9,6 +9,7 @@ mod families;
 mod headers;
 mod places;
 mod puts;
+mod reads;
 mod source;
 mod writer;
 
@@ -20,5 +21,6 @@ pub use puts::{
     put, put_chunk_end, put_chunk_head, put_entry, put_head, put_header, put_table_end,
     put_table_head,
 };
+pub use reads::{read_file_header, read_header, read_name, size_of_data};
 pub use source::{Page, bytes_at, read_at};
 pub use writer::BlockWriter;
