@@ -1,6 +1,6 @@
 -- Rules looked at group by group.
-use Rattle.std.proofs.Common.{◌≡◌, ℕ, ◌+◌, ◌-◌, ◌<◌, List, ◌++◌, [], ◌∷◌, map, refl, ◌∙◌, ap, Bool, true, false, cond}
-use Rattle.std.specs.Prelude.{Option, Some, None, Result, Ok, Err}
+use Rattle.std.proofs.Common.{◌≡◌, sym, subst, ℕ, ◌+◌, ◌-◌, ◌<◌, List, ◌++◌, [], ◌∷◌, map, refl, ◌∙◌, ap, Bool, true, false, cond}
+use Rattle.std.specs.Prelude.{Option, Some, None, Result, Ok, Err, IfErr, IsErrAnd}
 use Rattle.std.specs.Option.{option_or}
 use Rattle.std.specs.List.{range_with_len}
 use Rattle.adf_format.specs.Checks.{Row, row, Fault, first_broken}
@@ -30,6 +30,15 @@ breaks_then xs ys halt.Read kept h = tt
 pub finds_then : {T : Type 0} (xs ys : List Row) (r : Result T Halt) → first_broken xs ≡ None → Finds ys r → Finds (xs ++ ys) r
 finds_then xs ys (Ok x) kept f = kept_then xs ys None kept f
 finds_then xs ys (Err h) kept f = breaks_then xs ys h kept f
+
+-- what ended a call ends its caller, by a `?`
+pub refused : {T E : Type 0} (P : E → Type 0) (r : Result T E) (h : E) → IsErrAnd r (λ e. e ≡ h) → P h → IfErr r P
+refused P (Ok x) h is p = absurd is
+refused P (Err e) h is p = subst P (sym is) p
+
+pub ended_by : {T E : Type 0} (r : Result T E) (h : E) → IsErrAnd r (λ e. e ≡ h) → r ≡ Err h
+ended_by (Ok x) h is = absurd is
+ended_by (Err e) h is = ap Err is
 
 -- one rule
 pub row_kept : (rule place : ℕ) (k : Bool) → k ≡ true → first_broken (row rule place k ∷ []) ≡ None

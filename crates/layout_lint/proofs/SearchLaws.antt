@@ -20,7 +20,7 @@ use Rattle.layout_lint.specs.declared.look.Next.{Next}
 use Rattle.layout_lint.specs.declared.verdict.Halt.{Halt}
 use Rattle.layout_lint.specs.declared.verdict.Halt.TheVariants as halt
 use Rattle.layout_lint.specs.declared.walk.Search.{Search}
-use Rattle.layout_lint.specs.declared.walk.Found.{Found}
+use Rattle.layout_lint.specs.declared.walk.FoundNodes.{FoundNodes}
 use Rattle.layout_lint.specs.Halts.{Breaks, fault}
 use Rattle.layout_lint.specs.Nodes.{LeadsTo, extents_at}
 use Rattle.layout_lint.specs.Walks.{waiting_of, waiting_in, node_place, root_waiting, IsSearch, IsFound, EndsWalk}
@@ -114,7 +114,7 @@ breaks image wide end s ws m known halt.Memory same_wide same_end u is broken = 
 breaks image wide end s ws m known halt.Read same_wide same_end u is broken = tt
 
 -- none waits any more
-pub ends : (image : List ℕ) (s : Search) (f : Found) (stack : List Waiting) → IsSearch image stack s → stack ≡ [] → f.nodes ≡ s.nodes → f.extents ≡ s.extents → f.used ≡ s.used → IsFound image f
+pub ends : (image : List ℕ) (s : Search) (f : FoundNodes) (stack : List Waiting) → IsSearch image stack s → stack ≡ [] → f.nodes ≡ s.nodes → f.extents ≡ s.extents → f.used ≡ s.used → IsFound image f
 ends image s f stack u none nodes extents used =
     let end = passes.ended image u.met (subst (λ (xs : List Waiting). IsUnderway image xs u.met) none u.underway) in
     record {

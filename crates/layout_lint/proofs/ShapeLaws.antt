@@ -21,7 +21,7 @@ use Rattle.layout_lint.specs.declared.node.Met.{Met}
 use Rattle.layout_lint.specs.declared.stack.Family.{Family}
 use Rattle.layout_lint.specs.declared.verdict.NodePlace as code
 use Rattle.layout_lint.specs.declared.walk.Search.{Search}
-use Rattle.layout_lint.specs.declared.walk.Found.{Found}
+use Rattle.layout_lint.specs.declared.walk.FoundNodes.{FoundNodes}
 
 -- ---- one more node
 
@@ -281,13 +281,13 @@ pub some_then : (nodes : List code.NodePlace) (old : List NodePlace) (n : NodePl
 some_then nodes old n is = let longer = counts old n in let same = ap length is in let count = length-map nodes node_place in omega (arith, longer, same, count)
 
 -- none waits any more
-pub whole_found : (wide : Bool) (end : ℕ) (s : Search) (f : Found) → IsSteady wide end s → 0 < length s.nodes.items → f.nodes ≡ s.nodes → f.extents ≡ s.extents → IsWhole wide end f
+pub whole_found : (wide : Bool) (end : ℕ) (s : Search) (f : FoundNodes) → IsSteady wide end s → 0 < length s.nodes.items → f.nodes ≡ s.nodes → f.extents ≡ s.extents → IsWhole wide end f
 whole_found wide end s f steady some nodes extents = record {
   rooted = subst (λ ns. IsRooted wide end (map node_place ns.items) f.extents.items) (sym nodes) (subst (λ es. IsRooted wide end (map node_place s.nodes.items) es.items) (sym extents) steady.rooted);
   some = let same = ap (λ ns. length ns.items) nodes in omega (arith, some, same);
 }
 
 -- what is said of a file with these nodes and gaps
-pub shape_said : (wide : Bool) (end : ℕ) (found : Found) (extents gaps : List Extent) → IsWhole wide end found → end < 2 ^ 44 → Adds found.extents.items extents → AreSet extents end gaps → IsShaped (map node_place found.nodes.items) gaps end wide
+pub shape_said : (wide : Bool) (end : ℕ) (found : FoundNodes) (extents gaps : List Extent) → IsWhole wide end found → end < 2 ^ 44 → Adds found.extents.items extents → AreSet extents end gaps → IsShaped (map node_place found.nodes.items) gaps end wide
 shape_said wide end found extents gaps whole high adds set =
     shaped wide end _ found.extents.items extents gaps (let some = whole.some in let count = length-map found.nodes.items node_place in omega (arith, some, count)) high whole.rooted adds set

@@ -23,7 +23,7 @@ use Rattle.layout_laws.proofs.FoundVerdict as laws
 use Rattle.layout_laws.proofs.NodePassLaws as nodes
 use Rattle.layout_laws.proofs.TilePassLaws as tiles
 use Rattle.layout_lint.specs.declared.head.Head.{Head}
-use Rattle.layout_lint.specs.declared.walk.Found.{Found}
+use Rattle.layout_lint.specs.declared.walk.FoundNodes.{FoundNodes}
 use Rattle.layout_lint.specs.declared.verdict.Halt.{Halt}
 use Rattle.layout_lint.specs.declared.verdict.Halt.TheVariants as halt
 use Rattle.layout_lint.specs.Halts.{Breaks}
@@ -102,12 +102,12 @@ module _ (image : List ℕ) (head : Head) (is : IsHead image head) where
   node_fault halt.Memory e = tt
   node_fault halt.Read e = tt
 
-  pub list_fault : (found : Found) (f : IsFound image found) (h : Halt) → EndsLists image f.seen h → IsFault image h
+  pub list_fault : (found : FoundNodes) (f : IsFound image found) (h : Halt) → EndsLists image f.seen h → IsFault image h
   list_fault found f (halt.Broken b) e = in_list is.kept f.walk e
   list_fault found f halt.Memory e = tt
   list_fault found f halt.Read e = tt
 
-  module _ (found : Found) (f : IsFound image found) where
+  module _ (found : FoundNodes) (f : IsFound image found) where
     -- the bytes used are those of the extents found
     pub used_found : found.used ≡ 266 + total_length (found_extents image (is_wide image) f.seen)
     used_found = f.used ∙ ap (λ xs. 266 + total_length xs) (sym (nodes.known_extents image (is_wide image) f.seen f.seen f.met f.are))

@@ -2,12 +2,10 @@
 use Rattle.std.specs.Prelude.{◌≡◌, ℕ, ◌+◌, ◌<◌, Bool, false, List, [], ◌∷◌, ◌++◌, map, slice_get, Option, Some, None, IfSome, ⊤}
 use Rattle.std.specs.List.{Contains, flat_map}
 use Rattle.std.specs.List.Sorted.{IsPermutation}
-use Rattle.cg_io.specs.Cause.{Rose}
 pub use Rattle.cg_io.specs.Answers.{OnlyReads}
 use Rattle.adf_model.specs.declared.error.AdfError.{AdfError}
 use Rattle.adf_model.specs.declared.error.AdfError.TheVariants as error
 use Rattle.adf_format.specs.declared.types.Extent.{Extent}
-use Rattle.adf_format.specs.RuleNumbers.{IsRule}
 use Rattle.adf_format.specs.Checks.{first_broken}
 use Rattle.adf_format.specs.Tree.{Tree, name_at}
 use Rattle.adf_format.specs.Tiles.{total_length}
@@ -106,10 +104,3 @@ refusal_of halt.Read = error.ReadFault
 abbrev pub IsNoLayout : AdfError → Type 0
 IsNoLayout (error.Layout rule place) = ⊥
 IsNoLayout other = ⊤
-
--- want of memory, a failed read where the count of faults rose, or a rule of a layout
-abbrev pub MayRefuse : ℕ → ℕ → AdfError → Type 0
-MayRefuse before now error.Memory = ⊤
-MayRefuse before now error.ReadFault = Rose before now
-MayRefuse before now (error.Layout rule place) = IsRule rule
-MayRefuse before now other = ⊥

@@ -14,7 +14,7 @@ use Rattle.layout_lint.specs.Walks.{waiting_of, node_place, IsOpen, AreStepped, 
 use Rattle.layout_lint.specs.declared.node.Met.{Met}
 use Rattle.layout_lint.specs.declared.stack.Family.{Family}
 use Rattle.layout_lint.specs.declared.walk.Search.{Search}
-use Rattle.layout_lint.specs.declared.walk.Found.{Found}
+use Rattle.layout_lint.specs.declared.walk.FoundNodes.{FoundNodes}
 use Rattle.layout_lint.specs.declared.verdict.Verdict.{Verdict}
 use Rattle.layout_lint.specs.declared.verdict.Verdict.TheVariants as says
 
@@ -135,6 +135,6 @@ pub record IsGoing (wide : Bool) (end : ℕ) (search : Search) : Type 0 where
   pub some : 0 < length search.nodes.items
 
 -- and so where it has ended
-pub record IsWhole (wide : Bool) (end : ℕ) (found : Found) : Type 0 where
+pub record IsWhole (wide : Bool) (end : ℕ) (found : FoundNodes) : Type 0 where
   pub rooted : IsRooted wide end (map node_place found.nodes.items) found.extents.items
   pub some : 0 < length found.nodes.items

@@ -14,7 +14,7 @@ use Rattle.layout_lint.specs.declared.verdict.NodePlace as code
 use Rattle.layout_lint.specs.declared.verdict.Halt.{Halt}
 use Rattle.layout_lint.specs.declared.verdict.Halt.TheVariants as halt
 use Rattle.layout_lint.specs.declared.walk.Search.{Search}
-use Rattle.layout_lint.specs.declared.walk.Found.{Found}
+use Rattle.layout_lint.specs.declared.walk.FoundNodes.{FoundNodes}
 use Rattle.layout_lint.specs.Halts.{fault}
 
 -- a node that waits, as the passes have it
@@ -88,7 +88,7 @@ pub record IsSearch (image : List ℕ) (stack : List Waiting) (search : Search) 
   pub used : search.used ≡ 266 + total_length (met_extents image (is_wide image) met)
 
 -- The walk met these nodes, and has ended.
-pub record IsFound (image : List ℕ) (found : Found) : Type 0 where
+pub record IsFound (image : List ℕ) (found : FoundNodes) : Type 0 where
   pub met : List Waiting
   pub seen : List Visit
   pub walk : NodeWalk image (Ok seen)

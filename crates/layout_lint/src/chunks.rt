@@ -11,12 +11,14 @@ ghost use Rattle.layout_lint.specs.Told.{Told, IsReady};
 ghost use Rattle.layout_lint.specs.Halts.{Finds, HasCount, MayLackMemory, IsWant};
 ghost use Rattle.layout_lint.specs.Chunks.{visit_of, entry_visit, listed_chunks, AreListed, IsList, IsNear, chunk_said, chunk_entry_row, listed_chunk, chunk_visit, one_chunk_rows, tail_said, chunk_list, data_extent, list_extents, AddsChunks};
 
-use crate::marks::{Mark, look_at_start, look_at_tail, place_in, points_to};
+use crate::marks::{Mark, look_at_start, look_at_tail, place_in};
 use crate::pages::{Page, field_at};
 use crate::verdict::{Halt, Span, halt_at};
 use adf_chunks::Part;
+use adf_format::fields::{CHUNK_END, CHUNK_START, HEAD_POINTER};
 use adf_format::{Extent, ExtentKind};
 use cg_io::Blocks;
+use disk_ptr::fields::points_to;
 use std::alloc::Global;
 
 /// The chunks of a node: their number, and the place of the one chunk or of the table of several.
@@ -84,14 +86,9 @@ fn listed_in(bytes: &[u8; 24]) -> Option<Listed>
     ensures said { option_map entry_visit result ≡ chunk_said bytes.now }
     ensures bound { IfSome result IsNear }
 {
-    let place = match place_in(bytes, 0) {
-        Some(place) => place,
-        None => return None,
-    };
-    match place_in(bytes, 12) {
-        Some(tail) => Some(Listed { place, tail }),
-        None => None,
-    }
+    let place = place_in(bytes, CHUNK_START)?;
+    let tail = place_in(bytes, CHUNK_END)?;
+    Some(Listed { place, tail })
 }
 
 /// Looks at an entry of a table of chunks: rule 25.
@@ -112,10 +109,7 @@ pub fn look_at_chunk_entry<B: Blocks>(
     ensures cause { IfErr result (HasCount (B.state blocks.old).faults
         (B.state blocks.new).faults) }
 {
-    let bytes = match field_at::<B, 24>(blocks, page, at) {
-        Ok(bytes) => bytes,
-        Err(halt) => return Err(halt),
-    };
+    let bytes = field_at::<B, 24>(blocks, page, at)?;
     match listed_in(&bytes) {
         Some(listed) => Ok(listed),
         None => halt_at(25, at),
@@ -147,10 +141,7 @@ fn look_at_chunk_entries<B: Blocks>(
 {
     let mut list = Vec::new(alloc);
     for position in 0..chunks.count {
-        let listed = match look_at_chunk_entry(blocks, page, chunks.entry(position)) {
-            Ok(listed) => listed,
-            Err(halt) => return Err(halt),
-        };
+        let listed = look_at_chunk_entry(blocks, page, chunks.entry(position))?;
         match list.push(listed) {
             Ok(()) => {}
             Err(_) => return Err(Halt::Memory),
@@ -195,21 +186,12 @@ pub fn look_at_chunk_table<B: Blocks>(
         rule: 25,
         least: length,
     };
-    let head = match look_at_start::<B, 16>(blocks, page, span, mark) {
-        Ok(head) => head,
-        Err(halt) => return Err(halt),
-    };
-    if !points_to(&head, 4, tail) {
+    let head = look_at_start::<B, 16>(blocks, page, span, mark)?;
+    if !points_to(&head, HEAD_POINTER, tail) {
         return halt_at(25, chunks.place + 4);
     }
-    let list = match look_at_chunk_entries(alloc, blocks, page, chunks) {
-        Ok(list) => list,
-        Err(halt) => return Err(halt),
-    };
-    match look_at_tail(blocks, page, mark, tail) {
-        Ok(()) => {}
-        Err(halt) => return Err(halt),
-    }
+    let list = look_at_chunk_entries(alloc, blocks, page, chunks)?;
+    look_at_tail(blocks, page, mark, tail)?;
     if !span.has_room(used, length) {
         return halt_at(14, chunks.place);
     }
@@ -256,10 +238,7 @@ pub fn look_at_listing<B: Blocks>(
             list: Vec::new(alloc),
         });
     }
-    let list = match look_at_chunk_table(alloc, blocks, page, span, used, chunks) {
-        Ok(list) => list,
-        Err(halt) => return Err(halt),
-    };
+    let list = look_at_chunk_table(alloc, blocks, page, span, used, chunks)?;
     let length = chunks.table_length();
     match add_extent(extents, ExtentKind::ChunkTable, chunks.place, length) {
         Ok(()) => Ok(Framed {
@@ -309,17 +288,8 @@ fn tail_of(span: Span, chunk: Chunk, head: &[u8; 16]) -> Option<u64>
     ensures said { result ≡ tail_said span.end (visit_of chunk) (field head.now 4 12) }
     ensures bounds { IfSome result (λ tail. (chunk.place + 17 ≤ tail) × (tail + 3 ≤ span.end)) }
 {
-    let tail = match place_in(head, 4) {
-        Some(tail) => tail,
-        None => return None,
-    };
-    if tail + 4 < chunk.place + 21 {
-        return None;
-    }
-    if span.end + 1 < tail + 4 {
-        return None;
-    }
-    if !agrees(chunk.listed, tail) {
+    let tail = place_in(head, HEAD_POINTER)?;
+    if tail + 4 < chunk.place + 21 || span.end + 1 < tail + 4 || !agrees(chunk.listed, tail) {
         return None;
     }
     Some(tail)
@@ -353,18 +323,12 @@ pub fn look_at_chunk<B: Blocks>(
         rule: 26,
         least: 21,
     };
-    let head = match look_at_start::<B, 16>(blocks, page, span, mark) {
-        Ok(head) => head,
-        Err(halt) => return Err(halt),
-    };
+    let head = look_at_start::<B, 16>(blocks, page, span, mark)?;
     let tail = match tail_of(span, chunk, &head) {
         Some(tail) => tail,
         None => return halt_at(26, chunk.place + 4),
     };
-    match look_at_tail(blocks, page, mark, tail) {
-        Ok(()) => {}
-        Err(halt) => return Err(halt),
-    }
+    look_at_tail(blocks, page, mark, tail)?;
     let length = tail + 4 - chunk.place;
     if !span.has_room(used, length) {
         return halt_at(14, chunk.place);
@@ -423,14 +387,8 @@ pub fn look_at_chunks<B: Blocks>(
     let mut sums = Sums { used, payload: 0 };
     for position in 0..chunks.count {
         let chunk = chunk_at(chunks, list, position);
-        let length = match look_at_chunk(blocks, page, span, sums.used, chunk) {
-            Ok(length) => length,
-            Err(halt) => return Err(halt),
-        };
-        match add_extent(extents, ExtentKind::DataChunk, chunk.place, length) {
-            Ok(()) => {}
-            Err(halt) => return Err(halt),
-        }
+        let length = look_at_chunk(blocks, page, span, sums.used, chunk)?;
+        add_extent(extents, ExtentKind::DataChunk, chunk.place, length)?;
         sums.used += length;
         sums.payload += length - 20;
     }

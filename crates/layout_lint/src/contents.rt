@@ -103,10 +103,7 @@ fn gather<B: Blocks>(
     for chunk in chunks {
         let payload = chunk.length - 20;
         let count = payload.min((into.len() - done) as u64) as usize;
-        match read_part(blocks, page, chunk.place + 16, into, done, count) {
-            Ok(()) => {}
-            Err(halt) => return Err(halt),
-        }
+        read_part(blocks, page, chunk.place + 16, into, done, count)?;
         done += count;
     }
     Ok(())

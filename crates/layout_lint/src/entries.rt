@@ -9,22 +9,24 @@ ghost use Rattle.layout_lint.specs.Halts.{Finds, HasCount, MayLackMemory};
 ghost use Rattle.layout_lint.specs.Marks.{name_said};
 
 use crate::keys::KeySet;
-use crate::marks::{Mark, is_place, look_at_start, look_at_tail, points_to};
+use crate::marks::{Mark, look_at_start, look_at_tail};
 use crate::pages::{Page, field_at};
 use crate::verdict::{Halt, Span, halt_at};
 use adf_chunks::Part;
+use adf_format::fields::{ENTRY_CHILD, ENTRY_NAME, HEAD_POINTER};
 use adf_records::is_name_field;
 use cg_io::Blocks;
+use disk_ptr::fields::{copied, is_place, points_to};
 use std::alloc::Global;
 
 /// A table of children: where it stands, and its entries.
 #[derive(Clone, Copy, Drop)]
-pub struct Table {
+pub struct SubNodeTable {
     pub place: u64,
     pub entries: u32,
 }
 
-impl Table {
+impl SubNodeTable {
     /// Where its end tag stands.
     pub fn tail(self) -> u64
         requires { self.place < 2 ^ 44 }
@@ -56,7 +58,7 @@ pub fn look_at_table<B: Blocks>(
     page: &mut Page,
     span: Span,
     used: u64,
-    table: Table,
+    table: SubNodeTable,
 ) -> Result<(), Halt>
     requires ready { IsReady (B.is_sound blocks.old) (B.state blocks.old).held page.old }
     requires end { span.end < 2 ^ 44 }
@@ -79,17 +81,11 @@ pub fn look_at_table<B: Blocks>(
         rule: 23,
         least: length,
     };
-    let head = match look_at_start::<B, 16>(blocks, page, span, mark) {
-        Ok(head) => head,
-        Err(halt) => return Err(halt),
-    };
-    if !points_to(&head, 4, tail) {
+    let head = look_at_start::<B, 16>(blocks, page, span, mark)?;
+    if !points_to(&head, HEAD_POINTER, tail) {
         return halt_at(23, table.place + 4);
     }
-    match look_at_tail(blocks, page, mark, tail) {
-        Ok(()) => {}
-        Err(halt) => return Err(halt),
-    }
+    look_at_tail(blocks, page, mark, tail)?;
     if !span.has_room(used, length) {
         return halt_at(14, table.place);
     }
@@ -100,12 +96,8 @@ pub fn look_at_table<B: Blocks>(
 fn name_in(bytes: &[u8; 44]) -> Option<[u8; 32]>
     ensures { result ≡ name_said bytes.now }
 {
-    let mut name = [0u8; 32];
-    name.copy_from_slice(&bytes[..32]);
-    if !is_name_field(&name) {
-        return None;
-    }
-    if !is_place(bytes, 32) {
+    let name = copied(bytes, ENTRY_NAME);
+    if !is_name_field(&name) || !is_place(bytes, ENTRY_CHILD) {
         return None;
     }
     Some(name)
@@ -116,7 +108,7 @@ pub fn look_at_entries<B: Blocks>(
     alloc: Global,
     blocks: &mut B,
     page: &mut Page,
-    table: Table,
+    table: SubNodeTable,
     children: u32,
 ) -> Result<(), Halt>
     requires ready { IsReady (B.is_sound blocks.old) (B.state blocks.old).held page.old }
@@ -131,10 +123,7 @@ pub fn look_at_entries<B: Blocks>(
     let mut names: KeySet<[u8; 32]> = KeySet::new(alloc);
     for position in 0..children {
         let at = table.entry(position);
-        let bytes = match field_at(blocks, page, at) {
-            Ok(bytes) => bytes,
-            Err(halt) => return Err(halt),
-        };
+        let bytes = field_at(blocks, page, at)?;
         let name = match name_in(&bytes) {
             Some(name) => name,
             None => return halt_at(24, at),

@@ -15,7 +15,7 @@ use crate::head::{Head, look_at_head};
 use crate::lists::look_at_lists;
 use crate::pages::Page;
 use crate::verdict::{Halt, Verdict};
-use crate::walk::{Found, look_at_nodes};
+use crate::walk::{FoundNodes, look_at_nodes};
 use adf_format::Listing;
 use adf_model::AdfError;
 use cg_io::Blocks;
@@ -44,24 +44,15 @@ fn look_behind_head<B: Blocks>(
     ensures cause { IfErr result (MayLackMemory (B.state blocks.old).faults
         (B.state blocks.new).faults) }
 {
-    let found = match look_at_nodes(alloc, blocks, page, head) {
-        Ok(found) => found,
-        Err(halt) => return Err(halt),
-    };
-    let Found {
+    let found = look_at_nodes(alloc, blocks, page, head)?;
+    let FoundNodes {
         nodes,
         extents,
         used,
     } = found;
     let span = head.span;
-    let all = match look_at_lists(alloc, blocks, page, span, &head.lists, used, extents) {
-        Ok(all) => all,
-        Err(halt) => return Err(halt),
-    };
-    let gaps = match look_at_tiling(alloc, blocks, page, span, all) {
-        Ok(gaps) => gaps,
-        Err(halt) => return Err(halt),
-    };
+    let all = look_at_lists(alloc, blocks, page, span, &head.lists, used, extents)?;
+    let gaps = look_at_tiling(alloc, blocks, page, span, all)?;
     Ok(Verdict::Sound {
         nodes: Listing::new(nodes),
         gaps: Listing::new(gaps),
@@ -87,10 +78,7 @@ fn look_at_all<B: Blocks>(alloc: Global, blocks: &mut B) -> Result<Verdict, Halt
         (B.state blocks.new).faults) }
 {
     let mut page = Page::new();
-    let head = match look_at_head(blocks, &mut page) {
-        Ok(head) => head,
-        Err(halt) => return Err(halt),
-    };
+    let head = look_at_head(blocks, &mut page)?;
     look_behind_head(alloc, blocks, &mut page, &head)
 }
 

@@ -46,10 +46,7 @@ fn look_at_piece<B: Blocks>(
         (B.state blocks.new).faults) }
 {
     let start = (at % 4096) as usize;
-    match turn_to(blocks, page, (at / 4096) as u32) {
-        Ok(()) => {}
-        Err(halt) => return Err(halt),
-    }
+    turn_to(blocks, page, (at / 4096) as u32)?;
     match other_byte(&page.bytes[start..start + count as usize]) {
         Some(k) => halt_at(30, at + k as u64),
         None => Ok(()),
@@ -79,10 +76,7 @@ pub fn look_at_filler<B: Blocks>(
     let mut at = from;
     while at < to {
         let count = (4096 - at % 4096).min(to - at);
-        match look_at_piece(blocks, page, at, count) {
-            Ok(()) => {}
-            Err(halt) => return Err(halt),
-        }
+        look_at_piece(blocks, page, at, count)?;
         at += count;
     }
     Ok(())

@@ -52,10 +52,7 @@ fn fill<B: Blocks>(
     if from == to {
         return Ok(());
     }
-    match look_at_filler(blocks, page, from, to) {
-        Ok(()) => {}
-        Err(halt) => return Err(halt),
-    }
+    look_at_filler(blocks, page, from, to)?;
     add_extent(gaps, ExtentKind::Filler, from, to - from)
 }
 
@@ -90,15 +87,9 @@ fn pass<B: Blocks>(
     if extent.place < reach {
         return halt_at(30, extent.place);
     }
-    match fill(blocks, page, reach, extent.place, gaps) {
-        Ok(()) => {}
-        Err(halt) => return Err(halt),
-    }
+    fill(blocks, page, reach, extent.place, gaps)?;
     if is_free(&extent) {
-        match add_extent(gaps, extent.kind, extent.place, extent.length) {
-            Ok(()) => {}
-            Err(halt) => return Err(halt),
-        }
+        add_extent(gaps, extent.kind, extent.place, extent.length)?;
     }
     Ok(extent.place + extent.length)
 }

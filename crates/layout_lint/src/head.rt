@@ -30,7 +30,7 @@ pub struct Head {
 }
 
 /// The bytes of the header and of the free table, which stand in each file.
-pub const HEAD_LENGTH: u64 = 266;
+pub const FILE_HEAD_LENGTH: u64 = 266;
 
 const FREE_TABLE: u64 = 186;
 
@@ -58,7 +58,7 @@ fn length_of<B: Blocks>(blocks: &mut B, page: &Page) -> Result<u64, Halt>
         (B.state blocks.new).faults) }
 {
     match blocks.length() {
-        Ok(length) if length < HEAD_LENGTH => halt_at(1, 0),
+        Ok(length) if length < FILE_HEAD_LENGTH => halt_at(1, 0),
         Ok(length) => Ok(length),
         Err(_) => Err(Halt::Read),
     }
@@ -77,10 +77,7 @@ fn header_at<B: Blocks>(blocks: &mut B, page: &mut Page) -> Result<FileHeader, H
     ensures cause { IfErr result (HasCount (B.state blocks.old).faults
         (B.state blocks.new).faults) }
 {
-    let bytes = match field_at(blocks, page, 0) {
-        Ok(bytes) => bytes,
-        Err(halt) => return Err(halt),
-    };
+    let bytes = field_at(blocks, page, 0)?;
     match decode_header(&bytes) {
         Ok(header) => Ok(header),
         Err(bad) => halt_at(bad.rule, u64::from(bad.offset)),
@@ -100,10 +97,7 @@ fn free_table_at<B: Blocks>(blocks: &mut B, page: &mut Page) -> Result<FreeTable
     ensures cause { IfErr result (HasCount (B.state blocks.old).faults
         (B.state blocks.new).faults) }
 {
-    let bytes = match field_at(blocks, page, FREE_TABLE) {
-        Ok(bytes) => bytes,
-        Err(halt) => return Err(halt),
-    };
+    let bytes = field_at(blocks, page, FREE_TABLE)?;
     match decode_free(&bytes) {
         Ok(lists) => Ok(lists),
         Err(bad) => halt_at(bad.rule, FREE_TABLE + u64::from(bad.offset)),
@@ -148,22 +142,13 @@ pub fn look_at_head<B: Blocks>(blocks: &mut B, page: &mut Page) -> Result<Head, 
     ensures cause { IfErr result (HasCount (B.state blocks.old).faults
         (B.state blocks.new).faults) }
 {
-    let length = match length_of(blocks, page) {
-        Ok(length) => length,
-        Err(halt) => return Err(halt),
-    };
-    let header = match header_at(blocks, page) {
-        Ok(header) => header,
-        Err(halt) => return Err(halt),
-    };
+    let length = length_of(blocks, page)?;
+    let header = header_at(blocks, page)?;
     let span = span_of(&header);
     if !is_end(span, length) {
         return halt_at(8, 146);
     }
-    let lists = match free_table_at(blocks, page) {
-        Ok(lists) => lists,
-        Err(halt) => return Err(halt),
-    };
+    let lists = free_table_at(blocks, page)?;
     Ok(Head {
         format: header.format,
         root: place_of(header.root),

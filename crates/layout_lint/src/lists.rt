@@ -23,13 +23,15 @@ ghost use Rattle.disk_ptr.specs.View.{HasOffset};
 
 use crate::chunks::add_extent;
 use crate::keys::KeySet;
-use crate::marks::{Mark, look_at_start, look_at_tail, place_in, pointer_in};
+use crate::marks::{Mark, look_at_start, look_at_tail, place_in};
 use crate::pages::Page;
 use crate::verdict::{Halt, Span, halt_at};
 use adf_chunks::Part;
+use adf_format::fields::{FREE_HEAD_LENGTH, FREE_NEXT, HEAD_POINTER};
 use adf_format::{Extent, ExtentKind};
 use adf_records::FreeTable;
 use cg_io::Blocks;
+use disk_ptr::fields::pointer_at;
 use disk_ptr::{DiskPtr, place};
 use std::alloc::Global;
 
@@ -72,25 +74,17 @@ struct Frees {
     used: u64,
 }
 
-const HEAD_OF_FREE: usize = 28;
-
 const LEAST_FREE: u64 = 32;
 
 // Where the end tag of a free chunk stands, if that is in reach.
-fn tail_of(span: Span, at: u64, head: &[u8; HEAD_OF_FREE]) -> Option<u64>
+fn tail_of(span: Span, at: u64, head: &[u8; FREE_HEAD_LENGTH]) -> Option<u64>
     requires end { span.end < 2 ^ 44 }
     requires place { at < 2 ^ 44 }
     ensures said { result ≡ tail_said span.end at (field head.now 4 12) }
     ensures bounds { IfSome result (λ tail. (at + 28 ≤ tail) × (tail + 3 ≤ span.end)) }
 {
-    let tail = match place_in(head, 4) {
-        Some(tail) => tail,
-        None => return None,
-    };
-    if tail + 4 < at + LEAST_FREE {
-        return None;
-    }
-    if span.end + 1 < tail + 4 {
+    let tail = place_in(head, HEAD_POINTER)?;
+    if tail + 4 < at + LEAST_FREE || span.end + 1 < tail + 4 {
         return None;
     }
     Some(tail)
@@ -126,15 +120,12 @@ fn free_chunk_at<B: Blocks>(
         rule: 29,
         least: LEAST_FREE,
     };
-    let head = match look_at_start::<B, HEAD_OF_FREE>(blocks, page, span, mark) {
-        Ok(head) => head,
-        Err(halt) => return Err(halt),
-    };
+    let head = look_at_start::<B, FREE_HEAD_LENGTH>(blocks, page, span, mark)?;
     let tail = match tail_of(span, at, &head) {
         Some(tail) => tail,
         None => return halt_at(29, at + 4),
     };
-    let next = match pointer_in(&head, 16) {
+    let next = match pointer_at(&head, FREE_NEXT) {
         Some(next) => next,
         None => return halt_at(29, at + 16),
     };
@@ -165,10 +156,7 @@ fn keep(frees: &mut Frees, at: u64, length: u64) -> Result<(), Halt>
         Ok(()) => {}
         Err(_) => return Err(Halt::Memory),
     }
-    match add_extent(&mut frees.extents, ExtentKind::FreeChunk, at, length) {
-        Ok(()) => {}
-        Err(halt) => return Err(halt),
-    }
+    add_extent(&mut frees.extents, ExtentKind::FreeChunk, at, length)?;
     frees.used += length;
     Ok(())
 }
@@ -208,10 +196,7 @@ fn look_at_free<B: Blocks>(
     if frees.places.contains(&at) {
         return halt_at(29, at);
     }
-    let chunk = match free_chunk_at(blocks, page, span, at) {
-        Ok(chunk) => chunk,
-        Err(halt) => return Err(halt),
-    };
+    let chunk = free_chunk_at(blocks, page, span, at)?;
     if !span.has_room(frees.used, chunk.length) {
         return halt_at(14, at);
     }
@@ -303,19 +288,13 @@ fn sweep<B: Blocks>(
         last: table.small_last,
         last_at: 202,
     };
-    match look_at_list(blocks, page, span, small, frees) {
-        Ok(()) => {}
-        Err(halt) => return Err(halt),
-    }
+    look_at_list(blocks, page, span, small, frees)?;
     let medium = FreeList {
         first: table.medium_first,
         last: table.medium_last,
         last_at: 226,
     };
-    match look_at_list(blocks, page, span, medium, frees) {
-        Ok(()) => {}
-        Err(halt) => return Err(halt),
-    }
+    look_at_list(blocks, page, span, medium, frees)?;
     let large = FreeList {
         first: table.large_first,
         last: table.large_last,

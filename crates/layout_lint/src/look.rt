@@ -17,7 +17,7 @@ ghost use Rattle.layout_lint.specs.Nodes.{extents_at, LeadsTo, IsNext, IsHeaderA
 
 use crate::chunks::{Chunks, add_extent, look_at_chunks, look_at_listing};
 use crate::contents::look_at_contents;
-use crate::entries::{Table, look_at_entries, look_at_table};
+use crate::entries::{SubNodeTable, look_at_entries, look_at_table};
 use crate::head::place_of;
 use crate::node::{Met, look_at_header};
 use crate::pages::Page;
@@ -31,7 +31,7 @@ use std::alloc::Global;
 /// What a sound node leads to.
 #[derive(Clone, Copy, Drop)]
 pub struct Next {
-    pub table: Table,
+    pub table: SubNodeTable,
     pub children: u32,
     /// The bytes of all extents found so far, those of the node among them.
     pub used: u64,
@@ -100,14 +100,8 @@ fn look_at_children<B: Blocks>(
     if table.entries == 0 {
         return Ok(used);
     }
-    match look_at_table(blocks, page, span, used, table) {
-        Ok(()) => {}
-        Err(halt) => return Err(halt),
-    }
-    match look_at_entries(alloc, blocks, page, table, header.children) {
-        Ok(()) => {}
-        Err(halt) => return Err(halt),
-    }
+    look_at_table(blocks, page, span, used, table)?;
+    look_at_entries(alloc, blocks, page, table, header.children)?;
     let length = table.length();
     match add_extent(extents, ExtentKind::SubNodes, table.place, length) {
         Ok(()) => Ok(used + length),
@@ -116,11 +110,11 @@ fn look_at_children<B: Blocks>(
 }
 
 // The table that a header names.
-fn table_of(header: &NodeHeader) -> Table
+fn table_of(header: &NodeHeader) -> SubNodeTable
     ensures value { result ≡ record { place = table_of header.now; entries = header.now.entries } }
     ensures bound { HasOffsets header.now → result.place < 2 ^ 44 }
 {
-    Table {
+    SubNodeTable {
         place: place_of(header.table),
         entries: header.entries,
     }
@@ -166,16 +160,10 @@ fn look_at_data<B: Blocks>(
         count: header.chunks,
         place: place_of(header.chunk),
     };
-    let framed = match look_at_listing(alloc, blocks, page, span, used, chunks, extents) {
-        Ok(framed) => framed,
-        Err(halt) => return Err(halt),
-    };
+    let framed = look_at_listing(alloc, blocks, page, span, used, chunks, extents)?;
     let first = extents.len();
     let list = &framed.list;
-    let sums = match look_at_chunks(blocks, page, span, framed.used, chunks, list, extents) {
-        Ok(sums) => sums,
-        Err(halt) => return Err(halt),
-    };
+    let sums = look_at_chunks(blocks, page, span, framed.used, chunks, list, extents)?;
     let parts = &extents[first..];
     match look_at_contents(blocks, page, span, place, header, sums.payload, parts) {
         Ok(()) => Ok(sums.used),
@@ -220,30 +208,13 @@ pub fn look<B: Blocks>(
     ensures cause { IfErr result (MayLackMemory (B.state blocks.old).faults
         (B.state blocks.new).faults) }
 {
-    let header = match look_at_header(blocks, page, span, known, used, met) {
-        Ok(header) => header,
-        Err(halt) => return Err(halt),
-    };
+    let header = look_at_header(blocks, page, span, known, used, met)?;
     if !has_few_children(&header, met.depth) {
         return halt_at(22, met.place + 68);
     }
     let length = span.node_length() as u64;
-    match add_extent(extents, ExtentKind::Node, met.place, length) {
-        Ok(()) => {}
-        Err(halt) => return Err(halt),
-    }
-    let behind = match look_at_children(
-        alloc,
-        blocks,
-        page,
-        span,
-        used + length,
-        &header,
-        extents,
-    ) {
-        Ok(behind) => behind,
-        Err(halt) => return Err(halt),
-    };
+    add_extent(extents, ExtentKind::Node, met.place, length)?;
+    let behind = look_at_children(alloc, blocks, page, span, used + length, &header, extents)?;
     match look_at_data(
         alloc, blocks, page, span, behind, met.place, &header, extents,
     ) {

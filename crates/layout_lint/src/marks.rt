@@ -1,12 +1,10 @@
 //! The start and the end of a part of a file.
 
-ghost use Rattle.std.specs.Prelude.{◌≡◌, ◌^◌, ◌+◌, ◌≤◌, ◌<◌, [], ◌∷◌, length, IfOk, IfErr, IfSome, MatchOption, OnOk, option_map, true, false};
+ghost use Rattle.std.specs.Prelude.{◌≡◌, ◌^◌, ◌+◌, ◌≤◌, ◌<◌, [], ◌∷◌, length, IfOk, IfErr, IfSome, MatchOption, OnOk, true, false};
 ghost use Rattle.cg_io.specs.Blocks.{ReadsFew};
-ghost use Rattle.adf_format.specs.Pointer.{pointer, is_place, place_of};
+ghost use Rattle.adf_format.specs.Pointer.{is_place, place_of};
 ghost use Rattle.adf_format.specs.RuleNumbers.{IsRule};
-ghost use Rattle.adf_format.specs.FirstFault.{is_pointer_to};
 ghost use Rattle.adf_format.specs.Fields.{field};
-ghost use Rattle.disk_ptr.specs.View.{view, HasOffset};
 ghost use Rattle.layout_lint.specs.Told.{Told, IsReady};
 ghost use Rattle.layout_lint.specs.Halts.{Finds, HasCount};
 ghost use Rattle.layout_lint.specs.Marks.{start_row, tail_row};
@@ -14,8 +12,10 @@ ghost use Rattle.layout_lint.specs.Marks.{start_row, tail_row};
 use crate::pages::{Page, field_at};
 use crate::verdict::{Halt, Span, halt_at};
 use adf_chunks::{Part, begins, is_tail};
+use adf_format::fields::Field;
 use cg_io::Blocks;
-use disk_ptr::{DiskPtr, decode};
+use disk_ptr::DiskPtr;
+use disk_ptr::fields::pointer_at;
 
 /// A part of a file as it is looked at: its kind, its place, the number of its rule, and how many
 /// bytes it has at least.
@@ -53,10 +53,7 @@ pub fn look_at_start<B: Blocks, const N: usize>(
     if !span.fits(mark.place, mark.least) {
         return halt_at(mark.rule, mark.place);
     }
-    let head = match field_at(blocks, page, mark.place) {
-        Ok(head) => head,
-        Err(halt) => return Err(halt),
-    };
+    let head = field_at(blocks, page, mark.place)?;
     if !begins(mark.part, &head) {
         return halt_at(mark.rule, mark.place);
     }
@@ -80,73 +77,35 @@ pub fn look_at_tail<B: Blocks>(
     ensures cause { IfErr result (HasCount (B.state blocks.old).faults
         (B.state blocks.new).faults) }
 {
-    let tag = match field_at(blocks, page, tail) {
-        Ok(tag) => tag,
-        Err(halt) => return Err(halt),
-    };
+    let tag = field_at(blocks, page, tail)?;
     if !is_tail(mark.part, &tag) {
         return halt_at(mark.rule, tail);
     }
     Ok(())
 }
 
-/// The pointer at an offset of some bytes.
-pub fn pointer_in(bytes: &[u8], offset: usize) -> Option<DiskPtr>
-    requires { offset + 12 ≤ length bytes.now }
-    ensures value { option_map view result ≡ pointer (field bytes.now offset 12) }
-    ensures offset { IfSome result HasOffset }
-{
-    let mut text = [0u8; 12];
-    text.copy_from_slice(&bytes[offset..offset + 12]);
-    decode(&text)
-}
-
-/// The place that the pointer at an offset of some bytes names, if it names one.
-pub fn place_in(bytes: &[u8], offset: usize) -> Option<u64>
-    requires { offset + 12 ≤ length bytes.now }
-    ensures value { MatchOption result (is_place (field bytes.now offset 12) ≡ false)
-        (λ place. (is_place (field bytes.now offset 12) ≡ true)
-        × (place_of (field bytes.now offset 12) ≡ place)) }
+/// The place that the pointer in a field names, if it names one.
+pub fn place_in(bytes: &[u8], at: Field) -> Option<u64>
+    requires { at.offset + 12 ≤ length bytes.now }
+    ensures value { MatchOption result (is_place (field bytes.now at.offset 12) ≡ false)
+        (λ place. (is_place (field bytes.now at.offset 12) ≡ true)
+        × (place_of (field bytes.now at.offset 12) ≡ place)) }
     ensures bound { IfSome result (λ place. place < 2 ^ 44) }
 {
-    match pointer_in(bytes, offset) {
+    match pointer_at(bytes, at) {
         Some(DiskPtr::At { block, offset }) => Some(u64::from(block) * 4096 + u64::from(offset)),
         Some(DiskPtr::Blank) => None,
         None => None,
     }
 }
 
-/// Whether the pointer at an offset of some bytes names a place.
-pub fn is_place(bytes: &[u8], offset: usize) -> bool
-    requires { offset + 12 ≤ length bytes.now }
-    ensures { result ≡ is_place (field bytes.now offset 12) }
-{
-    match pointer_in(bytes, offset) {
-        Some(DiskPtr::At { .. }) => true,
-        Some(DiskPtr::Blank) => false,
-        None => false,
-    }
-}
-
-/// Whether the pointer at an offset of some bytes names this place.
-pub fn points_to(bytes: &[u8], offset: usize, place: u64) -> bool
-    requires { offset + 12 ≤ length bytes.now }
-    ensures { result ≡ is_pointer_to (field bytes.now offset 12) place }
-{
-    match pointer_in(bytes, offset) {
-        Some(DiskPtr::At { block, offset }) => u64::from(block) * 4096 + u64::from(offset) == place,
-        Some(DiskPtr::Blank) => false,
-        None => false,
-    }
-}
-
-/// The place that the pointer at an offset of some bytes names; 0 where it names none.
-pub fn place_or_zero(bytes: &[u8], offset: usize) -> u64
-    requires { offset + 12 ≤ length bytes.now }
-    ensures value { result ≡ place_of (field bytes.now offset 12) }
+/// The place that the pointer in a field names; 0 where it names none.
+pub fn place_or_zero(bytes: &[u8], at: Field) -> u64
+    requires { at.offset + 12 ≤ length bytes.now }
+    ensures value { result ≡ place_of (field bytes.now at.offset 12) }
     ensures bound { result < 2 ^ 44 }
 {
-    match pointer_in(bytes, offset) {
+    match pointer_at(bytes, at) {
         Some(DiskPtr::At { block, offset }) => u64::from(block) * 4096 + u64::from(offset),
         Some(DiskPtr::Blank) => 0,
         None => 0,

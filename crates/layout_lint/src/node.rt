@@ -65,10 +65,7 @@ fn header_at<B: Blocks, const N: usize>(
     ensures cause { IfErr result (HasCount (B.state blocks.old).faults
         (B.state blocks.new).faults) }
 {
-    let bytes = match field_at::<B, N>(blocks, page, met.place) {
-        Ok(bytes) => bytes,
-        Err(halt) => return Err(halt),
-    };
+    let bytes = field_at::<B, N>(blocks, page, met.place)?;
     let named = is_named(&met.entry, &bytes);
     match decode_named(&bytes, wide, named) {
         Ok(header) => Ok(header),

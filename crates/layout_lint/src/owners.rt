@@ -1,8 +1,9 @@
 //! The extents of a sound file by place, each with the node that it is a part of.
 
-ghost use Rattle.std.specs.Prelude.{◌≡◌, ◌^◌, ◌+◌, ◌*◌, ◌<◌, ◌++◌, ℕ, Bool, List, length, map, Option, Some, None, IfOk, IfErr, OnOk};
+ghost use Rattle.std.specs.Prelude.{◌≡◌, ◌^◌, ◌+◌, ◌*◌, ◌<◌, ◌++◌, ℕ, Bool, List, length, map, Option, Some, None, IfOk, IfErr, OnOk, ⊤};
 ghost use Rattle.std.specs.List.{All};
 ghost use Rattle.std.specs.List.Sorted.{IsPermutation, IsNonDecreasingBy};
+ghost use Rattle.cg_io.specs.Answers.{IsRefusal};
 ghost use Rattle.cg_io.specs.Blocks.{ReadsFew};
 ghost use Rattle.adf_format.specs.Tree.{Tree};
 ghost use Rattle.adf_format.specs.Placement.{Placement};
@@ -11,10 +12,10 @@ ghost use Rattle.adf_format.specs.Verdict.{IsLaidOutAs, ListsExtents};
 ghost use Rattle.layout_lint.specs.Told.{Told, IsReady};
 ghost use Rattle.layout_lint.specs.Halts.{IsWant, IsNoFault, MayLackMemory};
 ghost use Rattle.layout_lint.specs.Walks.{node_place};
-ghost use Rattle.layout_lint.specs.Owners.{extent_of, owned_by, owned_from, IsThere, name_of, KeepRules, place_of_node, IsLaidAt, OwnsPlaces, AreNamesAt, OwnsAll, IsNoLayout, MayRefuse, refusal_of};
+ghost use Rattle.layout_lint.specs.Owners.{extent_of, owned_by, owned_from, IsThere, name_of, KeepRules, place_of_node, IsLaidAt, OwnsPlaces, AreNamesAt, OwnsAll, IsNoLayout, refusal_of};
 ghost use Rattle.layout_lint.specs.Paths.{AreNames};
 
-use crate::head::{HEAD_LENGTH, look_at_head};
+use crate::head::{FILE_HEAD_LENGTH, look_at_head};
 use crate::look::look;
 use crate::node::Met;
 use crate::pages::Page;
@@ -110,18 +111,12 @@ fn add_nodes<B: Blocks>(
     ensures cause { IfErr result (MayLackMemory (B.state blocks.old).faults
         (B.state blocks.new).faults) }
 {
-    let mut used = HEAD_LENGTH;
+    let mut used = FILE_HEAD_LENGTH;
     for k in 0..places.len() {
         let mut extents = Vec::new(alloc);
         let met = met_at(places[k]);
-        let next = match look(alloc, blocks, page, span, false, used, &met, &mut extents) {
-            Ok(next) => next,
-            Err(halt) => return Err(halt),
-        };
-        match add_owned(&mut parts.owned, &extents, Some(k as u64)) {
-            Ok(()) => {}
-            Err(halt) => return Err(halt),
-        }
+        let next = look(alloc, blocks, page, span, false, used, &met, &mut extents)?;
+        add_owned(&mut parts.owned, &extents, Some(k as u64))?;
         match parts.names.push(next.name) {
             Ok(()) => {}
             Err(_) => return Err(Halt::Memory),
@@ -178,26 +173,14 @@ fn collect<B: Blocks>(
         (B.state blocks.new).faults) }
 {
     let mut page = Page::new();
-    let head = match look_at_head(blocks, &mut page) {
-        Ok(head) => head,
-        Err(halt) => return Err(halt),
-    };
+    let head = look_at_head(blocks, &mut page)?;
     let mut parts = Parts {
         owned: Vec::new(alloc),
         names: Vec::new(alloc),
     };
-    match add_owned(&mut parts.owned, &HEAD, None) {
-        Ok(()) => {}
-        Err(halt) => return Err(halt),
-    }
-    match add_nodes(alloc, blocks, &mut page, head.span, places, &mut parts) {
-        Ok(()) => {}
-        Err(halt) => return Err(halt),
-    }
-    match add_owned(&mut parts.owned, gaps, None) {
-        Ok(()) => {}
-        Err(halt) => return Err(halt),
-    }
+    add_owned(&mut parts.owned, &HEAD, None)?;
+    add_nodes(alloc, blocks, &mut page, head.span, places, &mut parts)?;
+    add_owned(&mut parts.owned, gaps, None)?;
     sort_by_place(&mut parts.owned);
     Ok(parts)
 }
@@ -243,7 +226,7 @@ pub fn survey_places<B: Blocks>(
     ensures effect { ReadsFew (4 * 2 ^ 44 + 35) (B.state blocks.old) (B.state blocks.new) }
     ensures few { Told (B.state blocks.old).held
         (λ image. ReadsFew (4 * length image + 35) (B.state blocks.old) (B.state blocks.new)) }
-    ensures cause { IfErr result (MayRefuse (B.state blocks.old).faults
+    ensures cause { IfErr result (IsRefusal ⊤ (B.state blocks.old).faults
         (B.state blocks.new).faults) }
 {
     match collect(alloc, blocks, places, gaps) {
@@ -298,7 +281,7 @@ pub fn survey<B: Blocks>(
     ensures effect { ReadsFew (4 * 2 ^ 44 + 35) (B.state blocks.old) (B.state blocks.new) }
     ensures few { Told (B.state blocks.old).held
         (λ image. ReadsFew (4 * length image + 35) (B.state blocks.old) (B.state blocks.new)) }
-    ensures cause { IfErr result (MayRefuse (B.state blocks.old).faults
+    ensures cause { IfErr result (IsRefusal ⊤ (B.state blocks.old).faults
         (B.state blocks.new).faults) }
 {
     match places_of(alloc, nodes.items()) {
@@ -328,7 +311,7 @@ pub fn owned_extents<B: Blocks>(
     ensures effect { ReadsFew (4 * 2 ^ 44 + 35) (B.state blocks.old) (B.state blocks.new) }
     ensures few { Told (B.state blocks.old).held
         (λ image. ReadsFew (4 * length image + 35) (B.state blocks.old) (B.state blocks.new)) }
-    ensures cause { IfErr result (MayRefuse (B.state blocks.old).faults
+    ensures cause { IfErr result (IsRefusal ⊤ (B.state blocks.old).faults
         (B.state blocks.new).faults) }
 {
     match survey(alloc, blocks, nodes, gaps) {
@@ -368,13 +351,10 @@ pub fn extents<B: Blocks>(
     ensures effect { ReadsFew (4 * 2 ^ 44 + 35) (B.state blocks.old) (B.state blocks.new) }
     ensures few { Told (B.state blocks.old).held
         (λ image. ReadsFew (4 * length image + 35) (B.state blocks.old) (B.state blocks.new)) }
-    ensures cause { IfErr result (MayRefuse (B.state blocks.old).faults
+    ensures cause { IfErr result (IsRefusal ⊤ (B.state blocks.old).faults
         (B.state blocks.new).faults) }
 {
-    let owned = match owned_extents(alloc, blocks, nodes, gaps) {
-        Ok(owned) => owned,
-        Err(error) => return Err(error),
-    };
+    let owned = owned_extents(alloc, blocks, nodes, gaps)?;
     match extents_in(alloc, owned.items()) {
         Ok(extents) => Ok(Listing::new(extents)),
         Err(_) => Err(AdfError::Memory),

@@ -87,10 +87,7 @@ pub fn read_at<B: Blocks>(
         let at = place + done as u64;
         let start = (at % 4096) as usize;
         let count = (4096 - start).min(into.len() - done);
-        match turn_to(blocks, page, (at / 4096) as u32) {
-            Ok(()) => {}
-            Err(halt) => return Err(halt),
-        }
+        turn_to(blocks, page, (at / 4096) as u32)?;
         patch_slice(into, done, &page.bytes[start..start + count]);
         done += count;
     }

@@ -67,10 +67,7 @@ fn way_down(alloc: Global, names: &[[u8; 32]], up: &[u64]) -> Result<Vec<u8>, Ad
 {
     let mut text = Vec::new(alloc);
     for k in (0..up.len()).rev() {
-        match add_name(alloc, &mut text, &names[up[k] as usize]) {
-            Ok(()) => {}
-            Err(error) => return Err(error),
-        }
+        add_name(alloc, &mut text, &names[up[k] as usize])?;
     }
     Ok(text)
 }
@@ -107,10 +104,7 @@ pub fn path_of(
         → IsPath tree number text) }
     ensures refused { IfErr result (λ e. e ≡ AdfError.Memory) }
 {
-    let up = match numbers_up(alloc, nodes.items(), number) {
-        Ok(up) => up,
-        Err(error) => return Err(error),
-    };
+    let up = numbers_up(alloc, nodes.items(), number)?;
     match way_down(alloc, names.items(), &up) {
         Ok(way) => printed(way),
         Err(error) => Err(error),

@@ -10,12 +10,14 @@ ghost use Rattle.layout_lint.specs.Halts.{HasCount, IsNoFault, IsWant};
 ghost use Rattle.layout_lint.specs.Walks.{waiting_of, TakesNext};
 ghost use Rattle.layout_lint.specs.Shapes.{IsChildIn};
 
-use crate::entries::Table;
+use crate::entries::SubNodeTable;
 use crate::marks::place_or_zero;
 use crate::node::Met;
 use crate::pages::{Page, field_at};
 use crate::verdict::Halt;
+use adf_format::fields::{ENTRY_CHILD, ENTRY_NAME};
 use cg_io::Blocks;
+use disk_ptr::fields::copied;
 
 /// The children of a node: its number and depth, its table, how many of the entries are in use, and
 /// the position of the next child that is to be looked at.
@@ -23,7 +25,7 @@ use cg_io::Blocks;
 pub struct Family {
     pub number: u64,
     pub depth: u8,
-    pub table: Table,
+    pub table: SubNodeTable,
     pub children: u32,
     pub next: u32,
 }
@@ -60,11 +62,9 @@ fn met_in(bytes: &[u8; 44], family: Family) -> Met
       depth = family.depth + 1;
     } }
 {
-    let mut name = [0u8; 32];
-    name.copy_from_slice(&bytes[..32]);
     Met {
-        place: place_or_zero(bytes, 32),
-        entry: Some(name),
+        place: place_or_zero(bytes, ENTRY_CHILD),
+        entry: Some(copied(bytes, ENTRY_NAME)),
         parent: family.number,
         position: family.next,
         depth: family.depth + 1,
@@ -87,9 +87,6 @@ pub fn child_of<B: Blocks>(blocks: &mut B, page: &mut Page, family: Family) -> R
     ensures cause { IfErr result (HasCount (B.state blocks.old).faults
         (B.state blocks.new).faults) }
 {
-    let bytes = match field_at::<B, 44>(blocks, page, family.table.entry(family.next)) {
-        Ok(bytes) => bytes,
-        Err(halt) => return Err(halt),
-    };
+    let bytes = field_at::<B, 44>(blocks, page, family.table.entry(family.next))?;
     Ok(met_in(&bytes, family))
 }

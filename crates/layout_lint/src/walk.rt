@@ -11,7 +11,7 @@ ghost use Rattle.layout_lint.specs.Walks.{IsSearch, IsFound, EndsWalk, KeepsNode
 ghost use Rattle.layout_lint.specs.Shapes.{IsSteady, IsWhole, IsGoing, MayFollow, met_place};
 
 use crate::chunks::add_extent;
-use crate::head::{HEAD_LENGTH, Head};
+use crate::head::{FILE_HEAD_LENGTH, Head};
 use crate::keys::KeySet;
 use crate::look::{Next, look};
 use crate::node::Met;
@@ -39,7 +39,7 @@ pub struct Search {
 
 /// What the walk found.
 #[derive(Drop)]
-pub struct Found {
+pub struct FoundNodes {
     pub nodes: Vec<NodePlace>,
     pub extents: Vec<Extent>,
     pub used: u64,
@@ -64,7 +64,7 @@ fn start(alloc: Global) -> Result<Search, Halt>
         nodes: Vec::new(alloc),
         places: KeySet::new(alloc),
         extents,
-        used: HEAD_LENGTH,
+        used: FILE_HEAD_LENGTH,
     })
 }
 
@@ -154,19 +154,10 @@ fn turn<B: Blocks>(
 {
     let known = search.places.contains(&met.place);
     let extents = &mut search.extents;
-    let next = match look(alloc, blocks, page, span, known, search.used, met, extents) {
-        Ok(next) => next,
-        Err(halt) => return Err(halt),
-    };
+    let next = look(alloc, blocks, page, span, known, search.used, met, extents)?;
     let number = search.nodes.len() as u64;
-    match open(search, met, number, &next) {
-        Ok(()) => {}
-        Err(halt) => return Err(halt),
-    }
-    match keep(search, met) {
-        Ok(()) => {}
-        Err(halt) => return Err(halt),
-    }
+    open(search, met, number, &next)?;
+    keep(search, met)?;
     search.used = next.used;
     Ok(())
 }
@@ -202,10 +193,7 @@ fn look_at_root<B: Blocks>(
         position: 0,
         depth: 0,
     };
-    let mut search = match start(alloc) {
-        Ok(search) => search,
-        Err(halt) => return Err(halt),
-    };
+    let mut search = start(alloc)?;
     match turn(alloc, blocks, page, head.span, &mut search, &root) {
         Ok(()) => Ok(search),
         Err(halt) => Err(halt),
@@ -245,10 +233,7 @@ fn step<B: Blocks>(
         Ok(None) => return Ok(false),
         Err(halt) => return Err(halt),
     };
-    let child = match child_of(blocks, page, family) {
-        Ok(child) => child,
-        Err(halt) => return Err(halt),
-    };
+    let child = child_of(blocks, page, family)?;
     match turn(alloc, blocks, page, span, search, &child) {
         Ok(()) => Ok(true),
         Err(halt) => Err(halt),
@@ -261,7 +246,7 @@ pub fn look_at_nodes<B: Blocks>(
     blocks: &mut B,
     page: &mut Page,
     head: &Head,
-) -> Result<Found, Halt>
+) -> Result<FoundNodes, Halt>
     requires ready { IsReady (B.is_sound blocks.old) (B.state blocks.old).held page.old }
     requires end { head.now.span.end < 2 ^ 44 }
     requires long { 510 < head.now.span.end }
@@ -280,10 +265,7 @@ pub fn look_at_nodes<B: Blocks>(
     ensures cause { IfErr result (MayLackMemory (B.state blocks.old).faults
         (B.state blocks.new).faults) }
 {
-    let mut search = match look_at_root(alloc, blocks, page, head) {
-        Ok(search) => search,
-        Err(halt) => return Err(halt),
-    };
+    let mut search = look_at_root(alloc, blocks, page, head)?;
     'walk: loop {
         match step(alloc, blocks, page, head.span, &mut search) {
             Ok(true) => {}
@@ -298,7 +280,7 @@ pub fn look_at_nodes<B: Blocks>(
         extents,
         used,
     } = search;
-    Ok(Found {
+    Ok(FoundNodes {
         nodes,
         extents,
         used,

@@ -1,5 +1,6 @@
 -- The map of a file, from what was said of its extents.
 use Rattle.std.proofs.Common.{◌≡◌, ◌⊎◌, inl, inr, ℕ, ◌≤◌, Bool, List, [], ◌++◌, take, map, Option, refl, sym, ap, subst, ◌∙◌, arith}
+use Rattle.std.specs.Prelude.{⊤}
 use Rattle.std.proofs.KnownBytes.{Appends-nil}
 use Rattle.cg_io.specs.Device.{DeviceState}
 use Rattle.adf_format.specs.RuleNumbers.{IsRule}
@@ -13,7 +14,8 @@ use Rattle.layout_lint.specs.declared.owners.Owned.{Owned}
 use Rattle.layout_lint.specs.Walks.{node_place}
 use Rattle.layout_lint.specs.Told.{Told}
 use Rattle.layout_lint.specs.Verdicts.{MayFail}
-use Rattle.layout_lint.specs.Owners.{IsNoLayout, MayRefuse, OwnsAll}
+use Rattle.cg_io.specs.Answers.{IsRefusal}
+use Rattle.layout_lint.specs.Owners.{IsNoLayout, OwnsAll}
 use Rattle.layout_lint.specs.Paths.{AreNames}
 use Rattle.layout_report.specs.Lines.{fault_line, end_line}
 use Rattle.layout_report.specs.Reports.{Ends, Says, TellsLines, Listed, Mapped, StartsMap, IsMap, Refuses}
@@ -75,7 +77,7 @@ mapped_before old mid new same rises _ _ (Mapped.lacking is) = Mapped.lacking (�
 
 -- nothing was said before the work ended
 pub refuses_at_once : (old new : DeviceState) (O : Type 0) (takes : O → Option (List ℕ)) (counts : O → ℕ) (given : AdfError) (result : Report) (before after : O)
-    → MayRefuse old.faults new.faults given → Told old.held (λ image. IsNoLayout given)
+    → IsRefusal ⊤ old.faults new.faults given → Told old.held (λ image. IsNoLayout given)
     → Refuses given result (takes before) (takes after) (counts before) (counts after) ⊎ ((result ≡ ended.Memory) × (after ≡ before))
     → Says (Mapped old new) (takes before) (takes after) (counts before) (counts after) result
 refuses_at_once old new O takes counts given result before after cause lawful told =

@@ -1,5 +1,6 @@
 -- How the ends of a report follow from what its lines were made of and what the sink took.
 use Rattle.std.proofs.Common.{◌≡◌, ◌⊎◌, inl, inr, ℕ, ◌+◌, ◌≤◌, List, [], ◌∷◌, ◌++◌, length, take, Option, suc, refl, sym, ap, subst, arith, length-append}
+use Rattle.std.specs.Prelude.{⊤}
 use Rattle.std.specs.Io.KnownBytes.{Appends}
 use Rattle.std.proofs.KnownBytes.{Appends-nil, Appends-trans}
 use Rattle.cg_io.specs.Cause.{Rose}
@@ -7,7 +8,8 @@ use Rattle.session.specs.Printed.{AppendsPart}
 use Rattle.adf_format.specs.RuleNumbers.{IsRule}
 use Rattle.adf_model.specs.declared.error.AdfError.{AdfError}
 use Rattle.adf_model.specs.declared.error.AdfError.TheVariants as error
-use Rattle.layout_lint.specs.Owners.{MayRefuse, IsNoLayout}
+use Rattle.cg_io.specs.Answers.{IsRefusal}
+use Rattle.layout_lint.specs.Owners.{IsNoLayout}
 use Rattle.layout_lint.specs.Verdicts.{MayFail}
 use Rattle.layout_report.specs.Lines.{fault_line}
 use Rattle.layout_report.specs.Reports.{Ends, Says, Refuses, read_fault_line}
@@ -56,11 +58,11 @@ said_as said other taken now faults later _ implies (torn report text is rose pa
 pub refuses_behind : (said : Report → List ℕ → Type 0) (O : Type 0) (takes : O → Option (List ℕ)) (counts : O → ℕ) (given : AdfError) (lines : List ℕ) (result : Report) (start : Option (List ℕ)) (first : ℕ) (old new : O) (before after : ℕ)
     → ((rule place : ℕ) → IsRule rule → given ≡ error.Layout rule place → said ended.Broken (lines ++ fault_line rule place))
     → (Rose before after → said ended.DeviceFault (lines ++ read_fault_line)) → said ended.Memory lines
-    → MayRefuse before after given → Appends start (takes old) lines → first ≤ counts old
+    → IsRefusal ⊤ before after given → Appends start (takes old) lines → first ≤ counts old
     → Refuses given result (takes old) (takes new) (counts old) (counts new) ⊎ ((result ≡ ended.Memory) × (new ≡ old))
     → Says said start (takes new) first (counts new) result
 refuses_behind said O takes counts given lines result start first old new before after broken failed lacking cause front rises (inr silent) = ends_silent said ended.Memory lines result start (takes old) (takes new) first (counts new) lacking front (ap takes silent.1) silent.0
-refuses_behind said O takes counts (error.Layout rule place) lines result start first old new before after broken failed lacking cause front rises (inl told) = ends_behind said ended.Broken lines (fault_line rule place) result start (takes old) (takes new) first (counts old) (counts new) (broken rule place cause refl) front rises told
+refuses_behind said O takes counts (error.Layout rule place) lines result start first old new before after broken failed lacking cause front rises (inl told) = ends_behind said ended.Broken lines (fault_line rule place) result start (takes old) (takes new) first (counts old) (counts new) (broken rule place cause.0 refl) front rises told
 refuses_behind said O takes counts error.Memory lines result start first old new before after broken failed lacking cause front rises (inl told) = absurd told
 refuses_behind said O takes counts error.ReadFault lines result start first old new before after broken failed lacking cause front rises (inl told) = ends_behind said ended.DeviceFault lines read_fault_line result start (takes old) (takes new) first (counts old) (counts new) (failed cause) front rises told
 refuses_behind said O takes counts _ lines result start first old new before after broken failed lacking cause front rises (inl told) = absurd cause
@@ -74,7 +76,7 @@ ends_or_lacks said O takes counts wanted line result old new is lacking (inl end
 ends_or_lacks said O takes counts wanted line result old new is lacking (inr silent) = ends_silent said ended.Memory [] result (takes old) (takes old) (takes new) (counts old) (counts new) lacking (Appends-nil (takes old)) (ap takes silent.1) silent.0
 
 -- a failure of the linter is no broken rule
-pub failure_refuses : (before after : ℕ) (failure : AdfError) → MayFail before after failure → MayRefuse before after failure
+pub failure_refuses : (before after : ℕ) (failure : AdfError) → MayFail before after failure → IsRefusal ⊤ before after failure
 failure_refuses before after error.Memory may = tt
 failure_refuses before after error.ReadFault may = may
 failure_refuses before after _ may = absurd may

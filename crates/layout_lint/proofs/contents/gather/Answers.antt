@@ -20,7 +20,7 @@ loop-chunk-preserved g c = let same : length c.read_part.new.into ≡ length c.l
           let e : Extent = get_or c.args.chunks.now c.loop-chunk.chunk-index none in
           let chunk : IsChunk end e = All-get_or (IsChunk end) c.args.chunks.now c.loop-chunk.chunk-index none c.loop-chunk-test.true sound in
           gather_step image end long c.args.chunks.now visits c.loop-chunk.chunk-index e none c.loop-chunk.done c.min-count.result (length c.args.into.now) _ c.loop-chunk.into c.read_part.new.into are c.loop-chunk-test.true refl chunk
-          c.loop-chunk.auto.into c.min-count.ensures (c.in-Ok.ensures.told image (c.loop-chunk.invariant.effect.held ∙ told) (let l = chunk.long in let i = chunk.inside in omega arith)) (c.loop-chunk.invariant.taken image told end visits long sound are);
+          c.loop-chunk.auto.into c.min-count.ensures (c.in_ok-read_part.ensures.told image (c.loop-chunk.invariant.effect.held ∙ told) (let l = chunk.long in let i = chunk.inside in omega arith)) (c.loop-chunk.invariant.taken image told end visits long sound are);
     }
 
 pub returns-clause-told : goal.returns-clause-told

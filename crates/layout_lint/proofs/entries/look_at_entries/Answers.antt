@@ -16,16 +16,16 @@ pub returns-in-None-clause-rows : goal.returns-in-None-clause-rows
 returns-in-None-clause-rows g c = λ image told within.
     let t = c.args.table.place in
     let i = c.loop-position.position in
-    let bytes = c.in-Ok.ensures.told image (c.loop-position.invariant.effect.held ∙ told) (omega arith) in
-    let said = entry_said image t i c.entry-at.result c.in-Ok.bytes c.entry-at.ensures bytes in
+    let bytes = c.in_ok-bytes.ensures.told image (c.loop-position.invariant.effect.held ∙ told) (omega arith) in
+    let said = entry_said image t i c.entry-at.result c.in_ok-bytes.bytes c.entry-at.ensures bytes in
     rw (c.halt_at.ensures, c.entry-at.ensures) (bad_entry image t i c.args.children c.loop-position-test.true _ (c.loop-position.invariant.rest image told within) (no_value _ _ _ (c.name_in.ensures ∙ said) c.in-None.is))
 
 pub returns-then-contains-clause-rows : goal.returns-then-contains-clause-rows
 returns-then-contains-clause-rows g c = λ image told within.
     let t = c.args.table.place in
     let i = c.loop-position.position in
-    let bytes = c.in-Ok.ensures.told image (c.loop-position.invariant.effect.held ∙ told) (omega arith) in
-    let said = entry_said image t i c.entry-at.result c.in-Ok.bytes c.entry-at.ensures bytes in
+    let bytes = c.in_ok-bytes.ensures.told image (c.loop-position.invariant.effect.held ∙ told) (omega arith) in
+    let said = entry_said image t i c.entry-at.result c.in_ok-bytes.bytes c.entry-at.ensures bytes in
     let some = some_value _ _ c.in-Some.name _ (c.name_in.ensures ∙ said) c.in-Some.is in
     rw (c.halt_at-then-contains.ensures, c.entry-at.ensures) (same_entry image t i c.args.children c.loop-position-test.true _ (c.loop-position.invariant.rest image told within)
     (rw (← some.1) (sym (c.loop-position.invariant.names image told within c.in-Some.name) ∙ sym c.contains.ensures ∙ c.if-contains.true)))
@@ -37,16 +37,16 @@ loop-position-preserved g c = record {
   rest = λ image told within.
       let t = c.args.table.place in
       let i = c.loop-position.position in
-      let bytes = c.in-Ok.ensures.told image (c.loop-position.invariant.effect.held ∙ told) (omega arith) in
-      let said = entry_said image t i c.entry-at.result c.in-Ok.bytes c.entry-at.ensures bytes in
+      let bytes = c.in_ok-bytes.ensures.told image (c.loop-position.invariant.effect.held ∙ told) (omega arith) in
+      let said = entry_said image t i c.entry-at.result c.in_ok-bytes.bytes c.entry-at.ensures bytes in
       let some = some_value _ _ c.in-Some.name _ (c.name_in.ensures ∙ said) c.in-Some.is in
       good_entry image t i c.args.children c.loop-position-test.true _ (c.loop-position.invariant.rest image told within) some.0
       (rw (← some.1) (sym (c.loop-position.invariant.names image told within c.in-Some.name) ∙ sym c.contains.ensures ∙ c.if-contains.false));
   names = λ image told within.
       let t = c.args.table.place in
       let i = c.loop-position.position in
-      let bytes = c.in-Ok.ensures.told image (c.loop-position.invariant.effect.held ∙ told) (omega arith) in
-      let said = entry_said image t i c.entry-at.result c.in-Ok.bytes c.entry-at.ensures bytes in
+      let bytes = c.in_ok-bytes.ensures.told image (c.loop-position.invariant.effect.held ∙ told) (omega arith) in
+      let said = entry_said image t i c.entry-at.result c.in_ok-bytes.bytes c.entry-at.ensures bytes in
       let some = some_value _ _ c.in-Some.name _ (c.name_in.ensures ∙ said) c.in-Some.is in
-      names_more image t i c.in-Some.name c.loop-position.names c.insert.new.self some.1 (c.loop-position.invariant.names image told within) c.in-Ok-insert.ensures;
+      names_more image t i c.in-Some.name c.loop-position.names c.insert.new.self some.1 (c.loop-position.invariant.names image told within) c.in-Ok.ensures;
 }

@@ -1,5 +1,5 @@
 use Rattle.layout_lint.proofs.RuleLaws.{header_rule}
 use Rattle.layout_lint.proofs.head.header_at.Goals as goal
 
-pub returns-in-Err-decode_header-clause-cause : goal.returns-in-Err-decode_header-clause-cause
-returns-in-Err-decode_header-clause-cause g c = rw c.halt_at.ensures (header_rule _ _ c.in-Err-decode_header.ensures.bad)
+pub returns-in-Err-clause-cause : goal.returns-in-Err-clause-cause
+returns-in-Err-clause-cause g c = rw c.halt_at.ensures (header_rule _ _ c.in-Err.ensures.bad)

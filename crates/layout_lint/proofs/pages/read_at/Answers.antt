@@ -6,7 +6,7 @@ use Rattle.layout_lint.proofs.pages.read_at.Goals as goal
 
 pub loop-done-preserved : goal.loop-done-preserved
 loop-done-preserved g c = let same : length c.patch_slice.new.into ≡ length c.loop-done.into = c.patch_slice.auto.into in
-    let gives : Gives (g.B.Blocks.state c.args.blocks.now).held ((c.args.place + c.loop-done.done) / 4096) c.turn_to.new.page.bytes = rw c.loop-done.invariant.effect.held at c.in-Ok.ensures.told in
+    let gives : Gives (g.B.Blocks.state c.args.blocks.now).held ((c.args.place + c.loop-done.done) / 4096) c.turn_to.new.page.bytes = rw c.loop-done.invariant.effect.held at c.in_ok-turn_to.ensures.told in
     record {
       inside = omega arith;
       ready = c.turn_to.ensures.ready;

@@ -14,7 +14,7 @@ loop-k-preserved c = record {
   low = omega arith;
   way = λ tree number are leads.
       way_step tree c.args.names.now are number (c.loop-k.k - 1) c.loop-k.k c.args.up.now c.loop-k.text.items c.add_name.new.text.items _ leads (omega arith) (omega arith)
-      (slice_get-get_or c.args.names.now _ _ (c.requires.there (c.loop-k.k - 1) 0 (omega arith))) (c.loop-k.invariant.way tree number are leads) c.in-Ok.ensures.added;
+      (slice_get-get_or c.args.names.now _ _ (c.requires.there (c.loop-k.k - 1) 0 (omega arith))) (c.loop-k.invariant.way tree number are leads) c.in_ok-add_name.ensures.added;
 }
 
 pub returns-clause-way : goal.returns-clause-way

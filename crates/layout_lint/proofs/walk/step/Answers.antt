@@ -25,22 +25,22 @@ pub turn-requires-clause-stepped : goal.turn-requires-clause-stepped
 turn-requires-clause-stepped g c = rest_stepped c.args.span.wide c.args.span.end c.args.search.now (record { families = c.take_next.new.families; nodes = c.args.search.now.nodes; places = c.args.search.now.places; extents = c.args.search.now.extents; used = c.args.search.now.used }) c.in-Ok-Some.family c.requires.going (took_some c.args.search.now.families.items c.take_next.new.families.items _ c.in-Ok-Some.family c.in-Ok-Some.field-0-is c.in-Ok-Some.ensures.took)
 
 pub turn-requires-clause-deep : goal.turn-requires-clause-deep
-turn-requires-clause-deep g c = rest_deep c.args.span.wide c.args.span.end c.args.search.now (record { families = c.take_next.new.families; nodes = c.args.search.now.nodes; places = c.args.search.now.places; extents = c.args.search.now.extents; used = c.args.search.now.used }) c.in-Ok-Some.family c.requires.going (took_some c.args.search.now.families.items c.take_next.new.families.items _ c.in-Ok-Some.family c.in-Ok-Some.field-0-is c.in-Ok-Some.ensures.took) c.in-Ok.child c.in-Ok.ensures.child
+turn-requires-clause-deep g c = rest_deep c.args.span.wide c.args.span.end c.args.search.now (record { families = c.take_next.new.families; nodes = c.args.search.now.nodes; places = c.args.search.now.places; extents = c.args.search.now.extents; used = c.args.search.now.used }) c.in-Ok-Some.family c.requires.going (took_some c.args.search.now.families.items c.take_next.new.families.items _ c.in-Ok-Some.family c.in-Ok-Some.field-0-is c.in-Ok-Some.ensures.took) c.in_ok-child.child c.in_ok-child.ensures.child
 
 pub turn-requires-clause-steady : goal.turn-requires-clause-steady
 turn-requires-clause-steady g c = rest_steady c.args.span.wide c.args.span.end c.args.search.now (record { families = c.take_next.new.families; nodes = c.args.search.now.nodes; places = c.args.search.now.places; extents = c.args.search.now.extents; used = c.args.search.now.used }) c.in-Ok-Some.family c.requires.going (took_some c.args.search.now.families.items c.take_next.new.families.items _ c.in-Ok-Some.family c.in-Ok-Some.field-0-is c.in-Ok-Some.ensures.took) refl refl
 
 pub turn-requires-clause-follows : goal.turn-requires-clause-follows
-turn-requires-clause-follows g c = rest_follows c.args.span.wide c.args.span.end c.args.search.now (record { families = c.take_next.new.families; nodes = c.args.search.now.nodes; places = c.args.search.now.places; extents = c.args.search.now.extents; used = c.args.search.now.used }) c.in-Ok-Some.family c.requires.going (took_some c.args.search.now.families.items c.take_next.new.families.items _ c.in-Ok-Some.family c.in-Ok-Some.field-0-is c.in-Ok-Some.ensures.took) c.in-Ok.child refl c.in-Ok.ensures.child
+turn-requires-clause-follows g c = rest_follows c.args.span.wide c.args.span.end c.args.search.now (record { families = c.take_next.new.families; nodes = c.args.search.now.nodes; places = c.args.search.now.places; extents = c.args.search.now.extents; used = c.args.search.now.used }) c.in-Ok-Some.family c.requires.going (took_some c.args.search.now.families.items c.take_next.new.families.items _ c.in-Ok-Some.family c.in-Ok-Some.field-0-is c.in-Ok-Some.ensures.took) c.in_ok-child.child refl c.in_ok-child.ensures.child
 
-pub returns-in-Ok-turn-clause-goes_on : goal.returns-in-Ok-turn-clause-goes_on
-returns-in-Ok-turn-clause-goes_on g c = λ image told span search.
+pub returns-in-Ok-clause-goes_on : goal.returns-in-Ok-clause-goes_on
+returns-in-Ok-clause-goes_on g c = λ image told span search.
     let takes = took_some c.args.search.now.families.items c.take_next.new.families.items _ c.in-Ok-Some.family c.in-Ok-Some.field-0-is c.in-Ok-Some.ensures.took in
     let family = c.in-Ok-Some.family in
     let inside = span.inside in
     let within = taken_within c.args.span.wide c.args.span.end c.args.search.now (record { families = c.take_next.new.families; nodes = c.args.search.now.nodes; places = c.args.search.now.places; extents = c.args.search.now.extents; used = c.args.search.now.used }) family c.requires.going takes in
-    let is = c.in-Ok.ensures.says image told (omega (arith, within, inside)) in
-    c.in-Ok-turn.ensures.goes_on image (c.child_of.ensures.effect.held ∙ told) span
+    let is = c.in_ok-child.ensures.says image told (omega (arith, within, inside)) in
+    c.in-Ok.ensures.goes_on image (c.child_of.ensures.effect.held ∙ told) span
     (same_search image _ _ c.args.search.now _ (one_waits image family c.args.search.now.families.items c.take_next.new.families.items takes ∙ ap (λ w. waiting_in image c.take_next.new.families.items ++ w ∷ []) (sym is)) refl refl refl refl search)
 
 pub returns-in-Err-turn-clause-stops : goal.returns-in-Err-turn-clause-stops
@@ -49,6 +49,6 @@ returns-in-Err-turn-clause-stops g c = λ image told span search.
     let family = c.in-Ok-Some.family in
     let inside = span.inside in
     let within = taken_within c.args.span.wide c.args.span.end c.args.search.now (record { families = c.take_next.new.families; nodes = c.args.search.now.nodes; places = c.args.search.now.places; extents = c.args.search.now.extents; used = c.args.search.now.used }) family c.requires.going takes in
-    let is = c.in-Ok.ensures.says image told (omega (arith, within, inside)) in
+    let is = c.in_ok-child.ensures.says image told (omega (arith, within, inside)) in
     c.in-Err-turn.ensures.stops image (c.child_of.ensures.effect.held ∙ told) span
     (same_search image _ _ c.args.search.now _ (one_waits image family c.args.search.now.families.items c.take_next.new.families.items takes ∙ ap (λ w. waiting_in image c.take_next.new.families.items ++ w ∷ []) (sym is)) refl refl refl refl search)
