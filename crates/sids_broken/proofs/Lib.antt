@@ -7,3 +7,11 @@ pub mod LimitLaws
 pub mod OverlapLaws
 pub mod EntryLaws
 pub mod PieceLaws
+pub mod ZoneLaws
+pub mod Keeping
+pub mod HeldLaws
+pub mod KindLaws
+pub mod OffsetTestLaws
+pub mod BrokenLaws
+pub mod FaceLaws
+pub mod ListedLaws

@@ -1,6 +1,6 @@
 -- Pieces between offsets, and what is known of a section with offsets.
 use Rattle.std.proofs.Common.{◌≡◌, ◌∙◌, sym, ap, subst, refl, arith, ℕ, zero, suc, ◌+◌, ◌-◌, ◌≤◌, ℤ, pos, negsuc, ◌≤ℤ◌, Bool, true, false, List, [], ◌∷◌, length, take, drop}
-use Rattle.std.specs.Prelude.{◌&&◌, ◌||◌, ◌==◌, ◌*◌, nat_le, int_le, if◌then◌else◌, unsigned_abs, is_some, unwrap_or, Option, Some, None}
+use Rattle.std.specs.Prelude.{◌&&◌, ◌||◌, ◌==◌, ◌*◌, nat_le, int_le, if◌then◌else◌, not, unsigned_abs, is_some, unwrap_or, Option, Some, None}
 use Rattle.std.specs.List.{list_any}
 use Rattle.std.specs.Int.{Width, w32, w64}
 use Rattle.std.specs.Ordering.{int_eq}
@@ -17,13 +17,13 @@ use Rattle.sids_views.specs.Views.{node_there, given}
 use Rattle.sids_rules.specs.Values.{is_type, is_ints, has_rank, is_small, ints_of, ints_in, ints_there, numbers_in}
 use Rattle.sids_rules.specs.Rules.{first_dimension, is_no_vertex}
 use Rattle.sids_rules.specs.Offsets.{piece_between}
-use Rattle.sids_rules.specs.OffsetRules.{OffsetSection, begins_at_0, never_falls, ends_at, are_offsets, pieces_of, entry_count, has_pieces, has_bad_node}
+use Rattle.sids_rules.specs.OffsetRules.{OffsetSection, begins_at_0, never_falls, ends_at, are_offsets, pieces_of, entry_count, has_pieces, has_bad_offsets, has_bad_node}
 use Rattle.sids_rules.proofs.Decided.{le_decides}
 use Rattle.sids_broken.specs.declared.offset_lists.OffsetState.{OffsetState}
 use Rattle.sids_broken.specs.declared.offset_lists.OffsetState.TheVariants as state
 use Rattle.sids_broken.specs.declared.pieces.PieceFault.{PieceFault}
 use Rattle.sids_broken.specs.declared.pieces.PieceFault.TheVariants as fault
-use Rattle.sids_broken.specs.Pieces.{is_list, offset_state, fault_of, fault_with, piece_fault, polygon_fault}
+use Rattle.sids_broken.specs.Pieces.{is_list, is_bad_state, offset_state, fault_of, fault_with, piece_fault, polygon_fault}
 use Rattle.sids_broken.proofs.TextLaws.{both}
 
 -- ---- the pieces of polygons are all numbers
@@ -182,3 +182,12 @@ module _ (files : Files) (section : OffsetSection) where
   pub no_fault : (limit : Option (Option ℤ)) (s : OffsetState) → is_good s ≡ false → s ≡ offset_state files section → None ≡ piece_fault files section limit
   no_fault limit s bad h =
       if_not (is_small (node_there files section.connectivity)) small hold (fault_of section.code entries_there offsets_there limit) (not_good small hold offsets_there s bad h)
+
+bad_by : (small holds : Bool) (offsets : List ℤ) → is_bad_state (by_tests small holds offsets) ≡ (small && not holds)
+bad_by true true offsets = refl
+bad_by true false offsets = refl
+bad_by false holds offsets = refl
+
+-- K37 offset-numbers is what the state says
+pub bad_is : (files : Files) (section : OffsetSection) → is_bad_state (offset_state files section) ≡ has_bad_offsets files section
+bad_is files section = bad_by (small files section) (hold files section) (offsets_there files section)

@@ -11,3 +11,11 @@ pub mod Overlaps
 pub mod OffsetParts
 pub mod Entries
 pub mod Pieces
+pub mod RuleSets
+pub mod Held
+pub mod Around
+pub mod KindTests
+pub mod SectionTests
+pub mod Faces
+pub mod OffsetTests
+pub mod NodeTests

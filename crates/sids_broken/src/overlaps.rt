@@ -103,7 +103,7 @@ fn overlap_step<C: TreeCalls>(
     }
 }
 
-fn is_same_node(one: NodeId, other: NodeId) -> bool
+pub(crate) fn is_same_node(one: NodeId, other: NodeId) -> bool
     ensures { result ≡ is_same_node one other }
 {
     one.file == other.file && one.serial == other.serial

@@ -1,6 +1,6 @@
 //! The sizes of zones, and how their vertices are connected.
 
-ghost use Rattle.std.specs.Prelude.{◌≡◌, ◌≢◌, ◌≤◌, ◌*◌, true, IfSome, Some, take, drop};
+ghost use Rattle.std.specs.Prelude.{◌≡◌, ◌≢◌, ◌≤◌, ◌*◌, true, IfSome, Some, take, drop, length};
 ghost use Rattle.adf_model.specs.Causes.{OnlyAsks};
 ghost use Rattle.adf_model.specs.Slots.{IsTold};
 ghost use Rattle.sids_views.specs.Asks.{IsValueOr, HasAskCause, IsPlain};
@@ -28,19 +28,20 @@ pub struct ZoneSizes {
 }
 
 impl Model for ZoneSizes {
-    ghost use Rattle.std.specs.Prelude.{◌≤◌};
+    ghost use Rattle.std.specs.Prelude.{◌≤◌, ◌≡◌, ◌*◌, length};
     ghost use Rattle.sids_rules.specs.Terms.{Sizes, sizes_in};
 
     ghost Value = { Sizes };
 
     ghost view = { λ s. sizes_in s.index s.numbers };
 
-    ghost invariant = { λ s. s.index ≤ 3 };
+    ghost invariant = { λ s. (s.index ≤ 3) × (length s.numbers ≡ 3 * s.index) };
 }
 
 impl ZoneSizes {
     fn new(index: usize, numbers: Numbers) -> ZoneSizes
-        requires { index ≤ 3 }
+        requires few { index ≤ 3 }
+        requires whole { length numbers ≡ 3 * index }
         ensures { result ≡ sizes_in index numbers }
     {
         ZoneSizes { index, numbers }
@@ -56,21 +57,24 @@ impl ZoneSizes {
 
     /// The vertices along each index.
     pub fn vertex(&self) -> &[i64]
-        ensures { result.now ≡ self.now.vertex }
+        ensures value { result.now ≡ self.now.vertex }
+        ensures length { length result.now ≡ self.now.index }
     {
         first_of_numbers(self.numbers.items(), self.index)
     }
 
     /// The cells along each index.
     pub fn cell(&self) -> &[i64]
-        ensures { result.now ≡ self.now.cell }
+        ensures value { result.now ≡ self.now.cell }
+        ensures length { length result.now ≡ self.now.index }
     {
         first_of_numbers(behind(self.numbers.items(), self.index), self.index)
     }
 
     /// The vertices on the boundary along each index.
     pub fn boundary(&self) -> &[i64]
-        ensures { result.now ≡ self.now.boundary }
+        ensures value { result.now ≡ self.now.boundary }
+        ensures length { length result.now ≡ self.now.index }
     {
         behind(behind(self.numbers.items(), self.index), self.index)
     }
@@ -120,7 +124,7 @@ pub fn zone_sizes<C: TreeCalls>(
     }
 }
 
-#[tactic(auto, using(crate::proofs::SmallLaws::zone_ints, crate::proofs::SmallLaws::zone_small))]
+#[tactic(auto, using(crate::proofs::SmallLaws::zone_ints, crate::proofs::SmallLaws::zone_small, crate::proofs::ZoneLaws::zone_counted))]
 fn sizes_at<C: TreeCalls>(
     alloc: Global,
     calls: &mut C,
@@ -146,8 +150,20 @@ fn sizes_at<C: TreeCalls>(
         (C.devices calls.new) result }
 {
     match ints_of(alloc, calls, at, wide) {
-        Ok(numbers) => Ok(Some(ZoneSizes::new(index, numbers))),
+        Ok(numbers) => Ok(whole_sizes(index, numbers)),
         Err(error) => Err(error),
+    }
+}
+
+/// The sizes that are three numbers for each index.
+fn whole_sizes(index: usize, numbers: Numbers) -> Option<ZoneSizes>
+    requires { index ≤ 3 }
+    ensures { length numbers ≡ 3 * index → result ≡ Some (sizes_in index numbers) }
+{
+    if numbers.items().len() == 3 * index {
+        Some(ZoneSizes::new(index, numbers))
+    } else {
+        None
     }
 }
 

@@ -1,0 +1,74 @@
+-- The rules of a set that a seen node breaks, by how it is seen.
+use Rattle.std.proofs.Common.{◌≡◌, ◌≢◌, ◌∙◌, sym, ap, refl, ℕ, Bool, true, false, List, [], ◌∷◌, ◌++◌}
+use Rattle.std.specs.Prelude.{Option, Some, None, not, ◌==◌}
+use Rattle.std.proofs.lemmas.List.{append-nil}
+use Rattle.adf_model.specs.declared.tree.NodeId.{NodeId}
+use Rattle.adf_model.specs.Slots.{Files}
+use Rattle.sids_tables.specs.declared.labels.LabelKind.{LabelKind}
+use Rattle.sids_tables.specs.declared.labels.LabelKind.TheVariants.{CgnsLibraryVersion, Other}
+use Rattle.sids_views.specs.Views.{kind_there, children_there, count_of}
+use Rattle.sids_rules.specs.declared.seen.Seen.{Seen}
+use Rattle.sids_rules.specs.Rules.{check_rules, broken_numbers, place_kind, is_allowed}
+use Rattle.sids_rules.specs.OffsetRules.{offset_rules}
+use Rattle.sids_rules.proofs.ByKind.{of_lost, of_root}
+use Rattle.sids_broken.specs.declared.around.Surroundings.{Surroundings}
+use Rattle.sids_broken.specs.declared.rule_sets.RuleSet.{RuleSet}
+use Rattle.sids_broken.specs.declared.rule_sets.RuleSet.TheVariants as set
+use Rattle.sids_broken.specs.declared.section_rules.Spot.{Spot}
+use Rattle.sids_broken.specs.RuleSets.{rules_of}
+use Rattle.sids_broken.specs.Held.{held}
+use Rattle.sids_broken.specs.Around.{surroundings}
+use Rattle.sids_broken.specs.NodeTests.{tests_at, tests_with_place}
+use Rattle.sids_broken.proofs.OffsetTestLaws.{numbers_append, broken_are}
+
+module _ (files : Files) (s : Seen) where
+  abbrev alone : List ℕ → Type 0
+  alone numbers = (rules : RuleSet) → broken_numbers (rules_of rules) files s ≡ numbers
+
+  -- nodes that no rule on offsets speaks of
+  by_check : (numbers : List ℕ) → broken_numbers check_rules files s ≡ numbers → broken_numbers offset_rules files s ≡ [] → alone numbers
+  by_check numbers h none set.Check = h
+  by_check numbers h none set.Check4 =
+      numbers_append check_rules offset_rules files s ∙ ap (λ ns. broken_numbers check_rules files s ++ ns) none ∙ append-nil (broken_numbers check_rules files s) ∙ h
+
+no_offsets_lost : (files : Files) (node : NodeId) (parent base zone : Option NodeId)
+    → broken_numbers offset_rules files (record { node = node; target = None; parent = parent; base = base; zone = zone }) ≡ []
+unfolding offset_rules
+no_offsets_lost files node parent base in_zone = refl
+
+no_offsets_root : (files : Files) (node at : NodeId) (base zone : Option NodeId)
+    → broken_numbers offset_rules files (record { node = node; target = Some at; parent = None; base = base; zone = zone }) ≡ []
+unfolding offset_rules
+no_offsets_root files node at base in_zone = refl
+
+lost : (files : Files) (node : NodeId) (target parent base zone : Option NodeId) (rules : RuleSet) → target ≡ None
+    → broken_numbers (rules_of rules) files (record { node = node; target = target; parent = parent; base = base; zone = zone }) ≡ 1 ∷ []
+lost files node target parent base zone rules e =
+    ap (λ t. broken_numbers (rules_of rules) files (record { node = node; target = t; parent = parent; base = base; zone = zone })) e
+    ∙ by_check files _ (1 ∷ []) (of_lost files node parent base zone) (no_offsets_lost files node parent base zone) rules
+
+-- a node whose link cannot be followed
+pub lost_are : (files : Files) (s : Seen) (rules : RuleSet) → s.target ≡ None → broken_numbers (rules_of rules) files s ≡ 1 ∷ []
+lost_are files s rules e = lost files s.node s.target s.parent s.base s.zone rules e
+
+-- the first node of a walk
+pub root_are : (files : Files) (s : Seen) (at : NodeId) (rules : RuleSet) → s.target ≡ Some at → s.parent ≡ None
+    → broken_numbers (rules_of rules) files s ≡ held ((3, not (count_of CgnsLibraryVersion (children_there files at) == 1)) ∷ [])
+root_are files s at rules e none =
+    ap (λ t. broken_numbers (rules_of rules) files (record { node = s.node; target = t; parent = s.parent; base = s.base; zone = s.zone })) e
+    ∙ ap (λ p. broken_numbers (rules_of rules) files (record { node = s.node; target = Some at; parent = p; base = s.base; zone = s.zone })) none
+    ∙ by_check files _ _ (of_root files s.node at s.base s.zone) (no_offsets_root files s.node at s.base s.zone) rules
+
+-- any other node
+pub others_are : (files : Files) (s : Seen) (at parent : NodeId) (k : LabelKind) (rules : RuleSet) → s.target ≡ Some at → s.parent ≡ Some parent → kind_there files at ≡ k
+    → broken_numbers (rules_of rules) files s ≡ held (tests_with_place rules k files (record { node = s.node; at = at; parent = parent; zone = s.zone }) (surroundings files s))
+others_are files s at parent k rules e there is =
+    ap (λ t. broken_numbers (rules_of rules) files (record { node = s.node; target = t; parent = s.parent; base = s.base; zone = s.zone })) e
+    ∙ ap (λ p. broken_numbers (rules_of rules) files (record { node = s.node; target = Some at; parent = p; base = s.base; zone = s.zone })) there
+    ∙ broken_are files s.node at parent s.base s.zone rules k is
+
+-- the rule of places comes first, of a node in the profile
+pub place_first : (rules : RuleSet) (k : LabelKind) (files : Files) (spot : Spot) (around : Surroundings) → k ≢ Other
+    → tests_with_place rules k files spot around ≡ (2, not (is_allowed (place_kind files spot.parent) k)) ∷ tests_at rules k files spot around
+place_first rules Other files spot around h = absurd (h refl)
+place_first rules _ files spot around h = refl

@@ -1,0 +1,46 @@
+-- The tests on a node that is not the first of a walk, by what its label says that it is.
+use Rattle.std.specs.Prelude.{ℕ, ℤ, Bool, not, List, [], ◌∷◌, ◌++◌, Option, IfSome}
+use Rattle.adf_model.specs.declared.tree.NodeId.{NodeId}
+use Rattle.adf_model.specs.Slots.{Files}
+use Rattle.sids_tables.specs.declared.labels.LabelKind.{LabelKind}
+use Rattle.sids_tables.specs.declared.labels.LabelKind.TheVariants.{CgnsBase, Zone, DataArray, Rind, Bc, Elements, Other}
+use Rattle.sids_views.specs.Asks.{IsPlain, IsThere}
+use Rattle.sids_rules.specs.Terms.{base_dimensions}
+use Rattle.sids_rules.specs.Rules.{place_kind, is_allowed}
+use Rattle.sids_broken.specs.declared.around.Surroundings.{Surroundings}
+use Rattle.sids_broken.specs.declared.section_rules.Spot.{Spot}
+use Rattle.sids_broken.specs.declared.section_parts.SectionParts.{SectionParts}
+use Rattle.sids_broken.specs.declared.rule_sets.RuleSet.{RuleSet}
+use Rattle.sids_broken.specs.Around.{sizes_around, limit_around}
+use Rattle.sids_broken.specs.KindTests.{tests_of_base, zone_tests, array_tests, rind_tests, condition_tests, tests_on}
+use Rattle.sids_broken.specs.SectionTests.{section_parts, section_tests}
+use Rattle.sids_broken.specs.OffsetTests.{offset_tests_of}
+
+-- the nodes of a spot are there
+pub record IsSpot (files : Files) (spot : Spot) : Type 0 where
+  pub node : IsThere files spot.node
+  pub at : IsPlain files spot.at
+  pub parent : IsPlain files spot.parent
+  pub zone : IfSome spot.zone (IsPlain files)
+
+-- of a section, by its parts
+abbrev pub parts_tests_of : RuleSet → Files → Option (Option ℤ) → Spot → SectionParts → List (ℕ × Bool)
+parts_tests_of set files limit spot parts = section_tests files spot.zone limit spot.parent spot.node parts ++ offset_tests_of set files spot.zone limit spot.at parts
+
+abbrev pub section_tests_of : RuleSet → Files → Option (Option ℤ) → Spot → List (ℕ × Bool)
+section_tests_of set files limit spot = parts_tests_of set files limit spot (section_parts files spot.at)
+
+-- behind the rule of places
+abbrev pub tests_at : RuleSet → LabelKind → Files → Spot → Surroundings → List (ℕ × Bool)
+tests_at set CgnsBase files spot around = tests_of_base (base_dimensions files spot.at)
+tests_at set Zone files spot around = zone_tests files around.base spot.at
+tests_at set DataArray files spot around = array_tests files (sizes_around around.zone) spot.at spot.parent
+tests_at set Rind files spot around = rind_tests files (sizes_around around.zone) spot.node spot.at
+tests_at set Bc files spot around = condition_tests files (sizes_around around.zone) spot.at
+tests_at set Elements files spot around = section_tests_of set files (limit_around around.zone) spot
+tests_at set other files spot around = tests_on other files spot.at
+
+-- none of a node that is outside the profile
+abbrev pub tests_with_place : RuleSet → LabelKind → Files → Spot → Surroundings → List (ℕ × Bool)
+tests_with_place set Other files spot around = []
+tests_with_place set kind files spot around = (2, not (is_allowed (place_kind files spot.parent) kind)) ∷ tests_at set kind files spot around
