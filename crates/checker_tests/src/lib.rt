@@ -8,4 +8,8 @@ mod offset_rules;
 #[cfg(test)]
 mod plain_rules;
 #[cfg(test)]
+mod plain_trees;
+#[cfg(test)]
 mod tables;
+#[cfg(test)]
+mod tree_rules;
