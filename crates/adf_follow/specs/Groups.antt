@@ -144,7 +144,7 @@ pub record IsDoneAnyway (files : Files) (was work : ℕ → FileWork) (group : O
 
 -- ---- why an edit is refused
 
--- a take of the edit is refused, and it is refused otherwise nowhere
+-- the edit is done on the tree of its file, and the heap rule refuses a take of it
 pub record IsFullAt (files : Files) (was : ℕ → FileWork) (group : Option ℕ) (edit : Edit) (asked end : ℕ) : Type 0 where
   pub number : ℕ
   pub reached : Edit

@@ -80,7 +80,8 @@ pub trait EditedFiles: OpenFiles {
             (device_at (Self.devices self.new) number)) }
         ensures layouts { IsLaidOutAt (slot_at (Self.pending self.old).kept number)
             (device_at (Self.devices self.old) number) → IsLaidOutAt
-            (slot_at (Self.pending self.new).kept number) (device_at (Self.devices self.new) number) }
+            (slot_at (Self.pending self.new).kept number)
+            (device_at (Self.devices self.new) number) }
         ensures told { IsToldIn (Self.files self.old) (Self.devices self.old) number → IsToldIn
             (Self.files self.new) (Self.devices self.new) number }
         ensures committed { OnOk result ((was : Open) → IsToldIn (Self.files self.old)
