@@ -253,14 +253,15 @@ named_file (PutAll n given) there number s = tt
 named_file (PutPart n selection given) there number s = tt
 named_file (Link n wanted file path) there number s = tt
 
-pub done_anyway : (files mid : Files) (was waiting : Pending) (work : ℕ → FileWork) (group : Option ℕ) (edit : Edit) (there : Option NodeId) (number : ℕ) → mid ≡ files → waiting ≡ was → Passed (tests_at_entry files (named_nodes edit)) → (group ≡ None) ⊎ (group ≡ Some number)
-    → list_any (λ (node : NodeId). not (node.file == number)) (named_nodes (with_there edit there)) ≡ false → standing_of (slot_at mid number) ≡ Standing.Editing → ((n : ℕ) → n ≢ number → work n ≡ waiting.work n)
-    → IsDoneAnyway files was.work work group edit number
-done_anyway files mid was waiting work group edit there number same still entry own near editing others = record {
+pub done_anyway : (files mid after : Files) (was waiting : Pending) (work : ℕ → FileWork) (group : Option ℕ) (edit : Edit) (there : Option NodeId) (number : ℕ) → mid ≡ files → waiting ≡ was → Passed (tests_at_entry files (named_nodes edit)) → (group ≡ None) ⊎ (group ≡ Some number)
+    → list_any (λ (node : NodeId). not (node.file == number)) (named_nodes (with_there edit there)) ≡ false → standing_of (slot_at mid number) ≡ Standing.Editing → after ≡ with_slot mid number (slot_at after number) → ((n : ℕ) → n ≢ number → work n ≡ waiting.work n)
+    → IsDoneAnyway files after was.work work group edit number
+done_anyway files mid after was waiting work group edit there number same still entry own near editing only others = record {
   entered = files_pass files (named_nodes edit) entry;
   own = own;
   editing = subst (λ (f : Files). standing_of (slot_at f number) ≡ Standing.Editing) same editing;
   named = named_file edit there number (all_there number (named_nodes (with_there edit there)) near);
+  left = only ∙ ap (λ (f : Files). with_slot f number (slot_at after number)) same;
   others = λ n apart. others n apart ∙ ap (λ (p : Pending). p.work n) still;
 }
 

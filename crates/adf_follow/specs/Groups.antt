@@ -134,12 +134,13 @@ pub record IsDone (before after : Files) (was work : ℕ → FileWork) (group : 
   pub stands : StandsIn number reached
   pub stepped : IsStepped before after was work number reached serial
 
--- an edit that is done, also where files are not told: its own files are open, and its file is the group's, may be edited, and is the one that it names where it follows no link there; what waits in other files stays
-pub record IsDoneAnyway (files : Files) (was work : ℕ → FileWork) (group : Option ℕ) (edit : Edit) (number : ℕ) : Type 0 where
+-- an edit that is done, also where files are not told: its own files are open, and its file is the group's, may be edited, and is the one that it names where it follows no link there; the other files stay, and what waits in them
+pub record IsDoneAnyway (files after : Files) (was work : ℕ → FileWork) (group : Option ℕ) (edit : Edit) (number : ℕ) : Type 0 where
   pub entered : first_refusal (tests_of_files files (named_nodes edit)) ≡ None
   pub own : (group ≡ None) ⊎ (group ≡ Some number)
   pub editing : standing_of (slot_at files number) ≡ Standing.Editing
   pub named : IfSome (own_file (edit ∷ [])) (λ own. number ≡ own)
+  pub left : after ≡ with_slot files number (slot_at after number)
   pub others : (n : ℕ) → n ≢ number → work n ≡ was n
 
 -- ---- why an edit is refused

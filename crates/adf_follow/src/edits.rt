@@ -1,6 +1,6 @@
 //! One edit of a group, through links.
 
-ghost use Rattle.std.specs.Prelude.{◌≡◌, ◌==◌, ℕ, true, not, Some, None, is_some, IsSome, None, unwrap_or, IfOk, IfErr, OnErr};
+ghost use Rattle.std.specs.Prelude.{◌≡◌, ◌==◌, ℕ, true, not, Some, None, is_some, IsSome, unwrap_or, IfOk, IfErr, OnErr};
 ghost use Rattle.std.specs.List.{list_any};
 ghost use Rattle.adf_model.specs.Calls.{file_of, tests_at_entry};
 ghost use Rattle.adf_model.specs.Tests.{first_refusal};
@@ -20,7 +20,7 @@ use std::alloc::Global;
 /// Does one edit of a group, in the file of its nodes, which is that of the group where it has one, and
 /// answers that file and the serial that was drawn. First come the refusals of its files and nodes, then
 /// those of its links, then OtherFile where a node stands in another file than the group's, then those
-/// of the edit itself.
+/// of the edit itself. A refused edit leaves all as it was, or drops what waited in its file.
 #[tactic(auto, using(crate::proofs::Waits::waits_none, crate::proofs::Waits::asks_wait, crate::proofs::Waits::waits_behind))]
 pub fn edit_one<F: EditedFiles>(
     alloc: Global,
@@ -34,7 +34,7 @@ pub fn edit_one<F: EditedFiles>(
     ensures kept { (F.pending files.new).kept ≡ (F.pending files.old).kept }
     ensures waits { OnlyWaits (F.files files.old) (F.devices files.old) (F.devices files.new)
         (F.files files.new) }
-    ensures anyway { IfOk result (λ done. IsDoneAnyway (F.files files.old)
+    ensures anyway { IfOk result (λ done. IsDoneAnyway (F.files files.old) (F.files files.new)
         (F.pending files.old).work (F.pending files.new).work group edit.now done.0) }
     ensures done { IfOk result (λ done. IsToldBy (F.files files.old) (F.devices files.old) edit.now
         → IsDone (F.files files.old) (F.files files.new) (F.pending files.old).work

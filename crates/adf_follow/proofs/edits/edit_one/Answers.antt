@@ -84,8 +84,8 @@ returns-in-Ok-step-clause-kept g c = c.step.ensures.kept ∙ ap (λ (p : Pending
 
 pub returns-in-Ok-step-clause-anyway : goal.returns-in-Ok-step-clause-anyway
 returns-in-Ok-step-clause-anyway g c =
-    done_anyway _ _ _ _ _ c.args.group c.args.edit.now c.in-Ok-lead.there c.group_file-number.result c.lead.ensures.leaves.files_stay c.lead.ensures.pending c.in-Ok.ensures (group_own c.args.group _ c.group_file-number.result c.group_file-number.ensures)
-    (sym c.is_elsewhere.ensures ∙ c.if-is_elsewhere.false) c.in-Ok-step.ensures.editing c.step.ensures.others
+    done_anyway _ _ _ _ _ _ c.args.group c.args.edit.now c.in-Ok-lead.there c.group_file-number.result c.lead.ensures.leaves.files_stay c.lead.ensures.pending c.in-Ok.ensures (group_own c.args.group _ c.group_file-number.result c.group_file-number.ensures)
+    (sym c.is_elsewhere.ensures ∙ c.if-is_elsewhere.false) c.in-Ok-step.ensures.editing c.step.ensures.only c.step.ensures.others
 
 pub returns-in-Ok-step-clause-done : goal.returns-in-Ok-step-clause-done
 returns-in-Ok-step-clause-done g c =
