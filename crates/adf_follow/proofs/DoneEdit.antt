@@ -152,6 +152,15 @@ module _ (files : Files) (before : Devices) (edit : Edit) (entry : Passed (tests
           let same : Some node ≡ there = same_Ok (sym (ap (λ r. and_then r (λ (there : NodeId). Ok (Some there))) reached) ∙ e) in
           ap (with_there edit) (sym same) ∙ followed_same edit node is
 
+  pub own_reached : IsEditTold files before edit → (reached : Edit) → resolve files edit ≡ Ok reached → reached ≡ edit
+  own_reached one reached e = by_followed (followed edit) refl e
+    where
+      by_followed : (o : Option NodeId) → followed edit ≡ o → resolved files edit o ≡ Ok reached → reached ≡ edit
+      by_followed None is e = sym (same_Ok e)
+      by_followed (Some node) is e =
+          let here : reach files node ≡ Ok node = ap (λ r. and_then r (λ (spot : Spot). Ok spot.node)) (at_node files node 100 (omega arith) (plain one node is)) in
+          sym (same_Ok (sym (ap (λ r. and_then r (λ there. Ok (with_followed edit there))) here) ∙ e)) ∙ followed_same edit node is
+
   -- the file of the nodes that it reaches is told
   pub told_there : (there : Option NodeId) (number : ℕ) → led_to files edit ≡ Ok there → StandsIn number (with_there edit there) → IsToldBy files before edit → IsToldIn files before number
   told_there there number e stands told = elim told [

@@ -37,7 +37,7 @@ use Rattle.tree_laws.proofs.Groups.FileLoop.{files_go_on, files_stop}
 use Rattle.adf_follow.proofs.Entered.{passes_refused}
 use Rattle.adf_follow.proofs.DoneAmong.{all_get, all_take, same_slot, file_after, DoneAmong, done_among}
 
-laid_many : (opened : Open) (device : Device) (held : Option (List ℕ)) → IsSome held → IsLaidOut (Live opened) device held → length device.placement.parts ≡ length opened.tree.nodes
+pub laid_many : (opened : Open) (device : Device) (held : Option (List ℕ)) → IsSome held → IsLaidOut (Live opened) device held → length device.placement.parts ≡ length opened.tree.nodes
 laid_many opened device None some laid = absurd (not_true some)
 laid_many opened device (Some image) some laid = sym (length-map device.placement.parts is_some) ∙ ap (λ (bs : List Bool). length bs) laid.same_nodes ∙ length-map opened.tree.nodes is_some
 

@@ -1,8 +1,8 @@
 -- A group under way begins, ends, breaks or stops.
-use Rattle.std.proofs.Common.{◌≡◌, ◌≢◌, ◌⊎◌, inl, inr, ℕ, suc, ◌+◌, ◌≤◌, false, List, [], ◌∷◌, ◌++◌, length, take, refl, sym, ◌∙◌, ap, subst, arith}
+use Rattle.std.proofs.Common.{◌≡◌, ◌≢◌, ◌⊎◌, inl, inr, ℕ, ◌<◌, ◌*◌, suc, ◌+◌, ◌≤◌, false, List, [], ◌∷◌, ◌++◌, length, take, refl, sym, ◌∙◌, ap, subst, arith}
 use Rattle.std.specs.Prelude.{Option, Some, None, IsSome, IfSome, IfOk, slice_get, Ok, Err}
 use Rattle.std.proofs.lemmas.Option.{slice_get_within}
-use Rattle.adf_format.specs.Tree.{Tree}
+use Rattle.adf_format.specs.Tree.{Tree, IsTree}
 use Rattle.adf_format.specs.Placement.{Placement}
 use Rattle.adf_format.specs.HeapRule.{place_edit, ◌>>=◌}
 use Rattle.adf_model.specs.declared.error.AdfError.{AdfError}
@@ -10,27 +10,38 @@ use Rattle.adf_model.specs.declared.error.AdfError.TheVariants.{Memory, ReadFaul
 use Rattle.adf_model.specs.declared.tree.Edit.{Edit}
 use Rattle.adf_model.specs.declared.tree.NodeId.{NodeId}
 use Rattle.adf_model.specs.Tests.{and_then, first_refusal}
-use Rattle.adf_model.specs.Edits.{named_nodes}
+use Rattle.adf_model.specs.Edits.{IsReached, apply, named_nodes}
+use Rattle.adf_model.specs.Need.{need}
 use Rattle.adf_model.specs.Placing.{placed_as, place_group, group_cost}
 use Rattle.adf_model.specs.Untouched.{KeepsRest, KeepsTail}
 use Rattle.adf_model.specs.Torn.{TornGroup}
-use Rattle.adf_model.specs.Slots.{Open, Slot, Files, Device, Devices, IsTold, AreTrees, slot_at, is_gone, open_at, with_slot, device_at}
+use Rattle.adf_model.specs.Slots.{Open, Slot, Files, Device, Devices, AreTrees, slot_at, is_gone, open_at, with_slot, device_at, recorded_end}
 use Rattle.adf_model.specs.Slots.Slot.{Live}
 use Rattle.adf_model.specs.Calls.{Group, group_of, group_after, group_step, edit_group, tests_at_entry, resolve}
-use Rattle.adf_model.specs.Steps.{MayEdit, OnlyRead, OthersOnlyRead, OthersStayPlaced, WriteFailed, SomeOpenFault, IsLaidOutAt, AllLaidOut, StopsAt, RoomStops, Refused, IsGroupRefusal, IsPlacedRefusal, OfGroup, HaveRoom, IsPlaced, IsWithinCost, IsOverLimit, LeavesUntouched, Changed, Step}
-use Rattle.adf_model.proofs.Basics.{not_true, not_there, same_Some}
-use Rattle.adf_model.proofs.Answering.LayoutLemmas.{live_slot, laid_out_trees}
-use Rattle.adf_model.proofs.Following.OneFileLaws.{reached_as_many}
-use Rattle.tree_laws.specs.Groups.{tree_left}
-use Rattle.tree_laws.proofs.Groups.GroupsGrow.{placement_grows}
+use Rattle.adf_model.specs.Steps.{MayEdit, OnlyRead, OthersOnlyRead, OthersStayPlaced, WriteFailed, SomeOpenFault, IsLaidOut, IsLaidOutAt, AllLaidOut, StopsAt, RoomStops, Refused, IsGroupRefusal, IsPlacedRefusal, OfGroup, HaveRoom, IsPlaced, IsWithinCost, IsOverLimit, LeavesUntouched, Changed, Step}
+use Rattle.adf_model.proofs.Basics.{not_true, not_there, same_Some, not_Err}
+use Rattle.adf_model.proofs.Answering.LayoutLemmas.{live_slot, end_of_open}
+use Rattle.adf_model.proofs.Following.OneFileLaws.{reached_as_many, in_its_file}
+use Rattle.tree_laws.specs.Groups.{tree_left, group_need}
+use Rattle.tree_laws.proofs.Groups.GroupsGrow.{step_reaches, are_done_grow, need_grows, placement_grows}
 use Rattle.tree_laws.proofs.Groups.GroupLoop.{group_ends}
 use Rattle.tree_laws.proofs.Groups.FileLoop.{files_go_on, files_stop}
-use Rattle.tree_laws.proofs.Groups.FileGroups.{takes_stop}
-use Rattle.adf_follow.specs.Groups.{FileWork, at_rest, OnlyWaits, HasCome, IsUnderWay, IsCommitted, IsTornCommit, IsFullAt, IsEditRefusal}
+use Rattle.tree_laws.proofs.Groups.FileGroups.{refused}
+use Rattle.tree_laws.proofs.Groups.NeedsOfGroups.{group_needs_bound}
+use Rattle.adf_follow.proofs.Entered.{Passed, refused_passes}
+use Rattle.adf_follow.proofs.DoneEdit.{first_has, own_reached}
+use Rattle.adf_follow.proofs.FileSteps.{laid_many}
+use Rattle.adf_follow.specs.Looking.{IsToldIn}
+use Rattle.adf_model.specs.OneFile.{StandsIn}
+use Rattle.adf_follow.specs.Groups.{FileWork, at_rest, OnlyWaits, HasCome, IsUnderWay, IsCommitted, IsTornCommit, IsToldBy, IsFullAt, IsEditRefusal}
 
 some_of : (o : Option Open) → IsSome o → (opened : Open) × (o ≡ Some opened)
 some_of None some = absurd (not_true some)
 some_of (Some opened) some = (opened, refl)
+
+tree_of : (opened : Open) (device : Device) (held : Option (List ℕ)) → IsSome held → IsLaidOut (Live opened) device held → IsTree opened.tree
+tree_of opened device None some laid = absurd (not_true some)
+tree_of opened device (Some image) some laid = laid.is_tree
 
 live_there : (slot : Slot) (opened : Open) → slot ≡ Live opened → is_gone slot ≡ false
 live_there slot opened e = ap is_gone e
@@ -48,6 +59,8 @@ begins files before edits work rest = record {
     was = opened;
     there = here;
     same = refl;
+    steps = tt;
+    needed = refl;
     waits = ap (λ (w : FileWork). w.done) (rest n);
     placed = ap Ok (sym (ap (λ (w : FileWork). w.placement) (rest n)));
     cost = (let none = ap (λ (w : FileWork). w.cost) (rest n) in omega (arith, none));
@@ -113,7 +126,7 @@ module _ (files now : Files) (before mid later : Devices) (edits : List Edit) (n
   opened : (opened : Open) × (open_at now n ≡ Some opened)
   opened = some_of (open_at now n) live
 
-  come : HasCome files before way.group.done n opened.0 (work n)
+  come : HasCome files before way.group n opened.0 (work n)
   come = way.come n opened.0 (inr refl) opened.1
 
   through : edit_group files edits ≡ Ok way.group
@@ -225,7 +238,7 @@ breaks files now before mid later edits n created work way live waits own others
 -- ---- an edit is refused
 
 module _ (files now : Files) (before mid : Devices) (edits : List Edit) (i : ℕ) (edit : Edit) (number : Option ℕ) (created : List NodeId) (work : ℕ → FileWork) (way : IsUnderWay files before edits i number created work now) (live : (n : ℕ) → number ≡ Some n → IsSome (open_at now n))
-    (waits : OnlyWaits files before mid now) (told : IsTold files before) (laid : AllLaidOut files before) (trees : AreTrees now) (there : slice_get edits i ≡ Some edit) where
+    (waits : OnlyWaits files before mid now) (told : IsToldBy now mid edit) (laid : AllLaidOut files before) (there : slice_get edits i ≡ Some edit) where
   refuses : {Cause : Type 0} → Cause → Refused Cause files before mid files
   refuses cause = record { cause = cause; files_stay = refl; devices_stay = waits.devices; placed = waits.placed }
 
@@ -252,17 +265,37 @@ module _ (files now : Files) (before mid : Devices) (edits : List Edit) (i : ℕ
     abbrev next : Group
     next = group_after way.group full.number full.opened full.reached full.tree
 
-    come_here : HasCome files before way.group.done full.number full.opened (work full.number)
+    come_here : HasCome files before way.group full.number full.opened (work full.number)
     come_here = way.come full.number full.opened full.own full.here
 
     own_group : (way.group.file ≡ None) ⊎ (way.group.file ≡ Some full.number)
     own_group = elim full.own [ inl h ↦ inl (way.file ∙ h) | inr h ↦ inr (way.file ∙ h) ]
 
+    entry : Passed (tests_at_entry now (named_nodes edit))
+    entry = refused_passes (tests_at_entry now (named_nodes edit)) full.entered
+
     stepped : group_step way.group edit ≡ Ok next
-    stepped =
-        reached_as_many way.group full.number full.opened edit full.reached (subst AreTrees way.trees trees) (subst (λ (f : Files). first_refusal (tests_at_entry f (named_nodes edit)) ≡ None) way.trees full.entered)
-        (subst (λ (f : Files). resolve f edit ≡ Ok full.reached) way.trees full.leads) (subst (λ (f : Files). open_at f full.number ≡ Some full.opened) way.trees full.here) own_group full.stands
+    stepped = elim told [
+      | inl all ↦ reached_as_many way.group full.number full.opened edit full.reached (subst AreTrees way.trees all.1) (subst (λ (f : Files). first_refusal (tests_at_entry f (named_nodes edit)) ≡ None) way.trees full.entered)
+          (subst (λ (f : Files). resolve f edit ≡ Ok full.reached) way.trees full.leads) (subst (λ (f : Files). open_at f full.number ≡ Some full.opened) way.trees full.here) own_group full.stands
+      | inr one ↦ ap (group_step way.group) (sym (own_reached now mid edit entry one full.reached full.leads))
+          ∙ in_its_file way.group full.number full.opened full.reached (subst (λ (f : Files). open_at f full.number ≡ Some full.opened) way.trees full.here) own_group full.stands (λ e. not_Err (sym e ∙ full.made))
+    ]
         ∙ ap (λ r. and_then r (λ (t : Tree). Ok (group_after way.group full.number full.opened full.reached t))) full.made
+
+    abbrev device : Device
+    device = device_at before full.number
+
+    -- the file tells, and holds a layout of its tree
+    told_now : IsToldIn now mid full.number
+    told_now = elim told [
+      | inl all ↦ all.0 full.number
+      | inr one ↦ subst (IsToldIn now mid) (sym (first_has (λ (n : NodeId). n.file ≡ one.number) edit one.stands)
+          ∙ first_has (λ (n : NodeId). n.file ≡ full.number) edit (subst (StandsIn full.number) (own_reached now mid edit entry one full.reached full.leads) full.stands)) one.told
+    ]
+
+    held : IsSome device.held
+    held = subst IsSome (waits.devices.others full.number (λ e. not_there full.number (sym e))).held (told_now (live_there (slot_at now full.number) full.opened (live_slot (slot_at now full.number) full.opened full.here)))
 
     through_it : edit_group files (take (i + 1) edits) ≡ Ok next
     through_it = let one : i + 1 ≡ suc i = omega arith in ap (λ k. edit_group files (take k edits)) one ∙ files_go_on files edits i edit way.group next there way.through stepped
@@ -277,10 +310,35 @@ module _ (files now : Files) (before mid : Devices) (edits : List Edit) (i : ℕ
         ∙ ap (λ t. place_edit full.opened.limit t full.tree (placed_as full.reached) (work full.number).placement) (sym left)
         ∙ full.over
 
+    laid_here : IsLaidOut (Live come_here.was) device device.held
+    laid_here = subst (λ (slot : Slot). IsLaidOutAt slot device) (live_slot (slot_at files full.number) come_here.was come_here.there) (laid full.number)
+
+    -- the edits up to it need more than is left
+    needs : come_here.was.limit * 4096 < recorded_end device + 1 + (way.group.needed + need full.opened.tree full.reached)
+    needs =
+        let tree = come_here.was.tree in
+        let left : full.opened.tree ≡ tree_left tree way.group.done = ap (λ (o : Open). o.tree) come_here.same in
+        let reaches = step_reaches full.opened.writable full.opened.tree full.tree full.reached full.made in
+        let steps = are_done_grow tree way.group.done e come_here.steps (subst (λ t. IsReached t full.reached) left reaches.0) (subst (λ t. apply t full.reached ≡ Ok full.tree) left reaches.1) in
+        let bound = refused come_here.was.limit device.placement.heap.end (group_need tree (way.group.done ++ e ∷ [])) (record { asked = asked; end = end }) (place_group come_here.was.limit tree device.placement (way.group.done ++ e ∷ [])) over
+        (group_needs_bound come_here.was.limit tree device.placement (way.group.done ++ e ∷ []) (tree_of come_here.was device device.held held laid_here) (laid_many come_here.was device device.held held laid_here) steps) in
+        let more = need_grows tree way.group.done e in
+        let this = ap (λ t. need t full.reached) left in
+        let so_far = come_here.needed in
+        let end_is = end_of_open come_here.was device held laid_here in
+        omega (arith, bound, more, this, so_far, end_is)
+
     room_stops : RoomStops files before edits i
-    room_stops = takes_stop files before edits i full.number next come_here.was (record { asked = asked; end = end }) (laid_out_trees files before told laid) (slice_get_within edits i edit there) through_it refl come_here.there
-        (told full.number (live_there (slot_at files full.number) come_here.was (live_slot (slot_at files full.number) come_here.was come_here.there)))
-        (subst (λ (s : Slot). IsLaidOutAt s (device_at before full.number)) (live_slot (slot_at files full.number) come_here.was come_here.there) (laid full.number)) over
+    room_stops = record {
+      exists = slice_get_within edits i edit there;
+      group = group_after way.group full.number full.opened full.reached full.tree;
+      through = through_it;
+      number = full.number;
+      file = refl;
+      opened = come_here.was;
+      live = come_here.there;
+      over = needs;
+    }
 
     over_limit : OfGroup files (take (i + 1) edits) (IsOverLimit before asked end)
     over_limit = subst (λ r. IfOk r (λ (g : Group). IfSome g.file (λ number. IfSome (open_at files number) (λ opened. IsOverLimit before asked end number opened g)))) (sym through_it)
@@ -295,8 +353,8 @@ module _ (files now : Files) (before mid : Devices) (edits : List Edit) (i : ℕ
   stops_here error h other fault = (refuses (files_stop files edits i edit way.group error there way.through (h way.group (sym way.trees) way.file)), room)
 
 pub stops : (files now : Files) (before mid : Devices) (edits : List Edit) (i : ℕ) (edit : Edit) (number : Option ℕ) (created : List NodeId) (work : ℕ → FileWork) (error : AdfError) → IsUnderWay files before edits i number created work now → ((n : ℕ) → number ≡ Some n → IsSome (open_at now n))
-    → OnlyWaits files before mid now → IsTold files before → AllLaidOut files before → AreTrees now → slice_get edits i ≡ Some edit → IsEditRefusal now work number edit error → error ≢ WriteFault → (error ≡ ReadFault → SomeOpenFault files before mid)
+    → OnlyWaits files before mid now → IsToldBy now mid edit → AllLaidOut files before → slice_get edits i ≡ Some edit → IsEditRefusal now work number edit error → error ≢ WriteFault → (error ≡ ReadFault → SomeOpenFault files before mid)
     → Step files before (Changed edits (Err (record { at = i; error = error }))) mid files
-stops files now before mid edits i edit number created work error way live waits told laid trees there h other fault =
-    let step = stops_here files now before mid edits i edit number created work way live waits told laid trees there error h other fault in
+stops files now before mid edits i edit number created work error way live waits told laid there h other fault =
+    let step = stops_here files now before mid edits i edit number created work way live waits told laid there error h other fault in
     (step.0, step.1, tt)

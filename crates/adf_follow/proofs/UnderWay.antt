@@ -7,8 +7,8 @@ use Rattle.adf_format.specs.Placement.{Placement}
 use Rattle.adf_model.specs.declared.tree.Edit.{Edit}
 use Rattle.adf_model.specs.declared.tree.NodeId.{NodeId}
 use Rattle.adf_model.specs.Tests.{first_refusal, and_then}
-use Rattle.adf_model.specs.Edits.{named_nodes, created_by}
-use Rattle.adf_model.specs.Need.{cost}
+use Rattle.adf_model.specs.Edits.{IsReached, apply, named_nodes, created_by}
+use Rattle.adf_model.specs.Need.{need, cost}
 use Rattle.adf_model.specs.OneFile.{StandsIn}
 use Rattle.adf_model.specs.Placing.{placed_as, chunk_number}
 use Rattle.adf_model.specs.Slots.{Open, Files, Devices, AreTrees, open_at, with_slot, device_at}
@@ -17,7 +17,7 @@ use Rattle.adf_model.specs.Calls.{tests_at_entry, resolve, edit_group, group_aft
 use Rattle.adf_model.proofs.Basics.{not_there, same_Some, not_Err}
 use Rattle.adf_model.proofs.Following.OneFileLaws.{reached_as_many, in_its_file, opened_now}
 use Rattle.tree_laws.specs.Groups.{tree_left}
-use Rattle.tree_laws.proofs.Groups.GroupsGrow.{tree_grows, placement_grows, placement_is_left, cost_grows}
+use Rattle.tree_laws.proofs.Groups.GroupsGrow.{step_reaches, are_done_grow, need_grows, tree_grows, placement_grows, placement_is_left, cost_grows}
 use Rattle.tree_laws.proofs.Groups.FileLoop.{files_go_on}
 use Rattle.adf_follow.specs.Groups.{FileWork, HasCome, IsUnderWay, IsStep}
 
@@ -38,7 +38,7 @@ module _ (files now after : Files) (before : Devices) (edits : List Edit) (i n :
   ]
       ∙ ap (λ r. and_then r (λ (t : Tree). Ok (group_after way.group n opened reached t))) step.made
 
-  further : HasCome files before (way.group.done ++ e ∷ []) n (record opened { tree = tree }) (work n)
+  further : HasCome files before (group_after way.group n opened reached tree) n (record opened { tree = tree }) (work n)
   further =
       let come = way.come n opened own here in
       let p = (device_at before n).placement in
@@ -48,6 +48,14 @@ module _ (files now after : Files) (before : Devices) (edits : List Edit) (i n :
         was = come.was;
         there = come.there;
         same = ap (λ (o : Open). record o { tree = tree }) come.same ∙ ap (λ t. record come.was { tree = t }) (sym (tree_grows come.was.tree way.group.done e));
+        steps = (
+            let reaches = step_reaches opened.writable opened.tree tree reached step.made in
+            are_done_grow come.was.tree way.group.done e come.steps (subst (λ t. IsReached t reached) at reaches.0) (subst (λ t. apply t reached ≡ Ok tree) at reaches.1));
+        needed = (
+            let more = need_grows come.was.tree way.group.done e in
+            let this = ap (λ t. need t reached) at in
+            let so_far = come.needed in
+            omega (arith, more, this, so_far));
         waits = step.done ∙ ap (λ d. d ++ e ∷ []) come.waits;
         placed = placement_grows come.was.limit come.was.tree p way.group.done e
             ∙ ap (λ r. r >>= λ (q : Placement). place_edit come.was.limit (tree_left come.was.tree way.group.done) tree (placed_as reached) q) come.placed
@@ -73,6 +81,6 @@ module _ (files now after : Files) (before : Devices) (edits : List Edit) (i n :
       | inr h ↦
           let at : n ≡ m = same_Some n m h in
           let this : record opened { tree = tree } ≡ o = same_Some (record opened { tree = tree }) o (sym (opened_now now n opened (record opened { tree = tree }) here) ∙ ap (λ f. open_at f n) (sym left) ∙ ap (λ k. open_at after k) at ∙ found) in
-          subst (λ k. HasCome files before (way.group.done ++ e ∷ []) k o (work k)) at (subst (λ o. HasCome files before (way.group.done ++ e ∷ []) n o (work n)) this further)
+          subst (λ k. HasCome files before (group_after way.group n opened reached tree) k o (work k)) at (subst (λ o. HasCome files before (group_after way.group n opened reached tree) n o (work n)) this further)
     ];
   }

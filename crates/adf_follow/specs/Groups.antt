@@ -21,7 +21,7 @@ use Rattle.adf_model.specs.OneFile.{StandsIn}
 use Rattle.adf_model.specs.Calls.{Group, tests_of_files, tests_at_entry, resolve, group_step, edit_group}
 use Rattle.adf_model.specs.Steps.{OthersOnlyRead, OthersStayPlaced, HasCauseOf, own_file, IsFileRefusal}
 use Rattle.adf_model.specs.Causes.{EntersFiles, may_refuse_edit}
-use Rattle.tree_laws.specs.Groups.{tree_left}
+use Rattle.tree_laws.specs.Groups.{tree_left, group_need, AreDone}
 use Rattle.adf_follow.specs.Looking.{IsToldIn}
 
 -- ---- what waits
@@ -188,13 +188,15 @@ LeavesUndone group files was now pending after = ((after ≡ files) × (pending 
 -- ---- a group
 
 -- an open file of a group: as it was before the first edit, and what the edits made of it
-pub record HasCome (files : Files) (before : Devices) (done : List (Edit × Tree)) (number : ℕ) (opened : Open) (work : FileWork) : Type 0 where
+pub record HasCome (files : Files) (before : Devices) (group : Group) (number : ℕ) (opened : Open) (work : FileWork) : Type 0 where
   pub was : Open
   pub there : open_at files number ≡ Some was
-  pub same : opened ≡ record was { tree = tree_left was.tree done }
-  pub waits : work.done ≡ done
-  pub placed : place_group was.limit was.tree (device_at before number).placement done ≡ Ok work.placement
-  pub cost : work.cost ≤ group_cost was.limit was.tree (device_at before number).placement done
+  pub same : opened ≡ record was { tree = tree_left was.tree group.done }
+  pub steps : AreDone was.tree group.done
+  pub needed : group.needed ≡ group_need was.tree group.done
+  pub waits : work.done ≡ group.done
+  pub placed : place_group was.limit was.tree (device_at before number).placement group.done ≡ Ok work.placement
+  pub cost : work.cost ≤ group_cost was.limit was.tree (device_at before number).placement group.done
 
 -- the first edits of a group, as many as i, are done on the trees in work
 pub record IsUnderWay (files : Files) (before : Devices) (edits : List Edit) (i : ℕ) (number : Option ℕ) (created : List NodeId) (work : ℕ → FileWork) (now : Files) : Type 0 where
@@ -203,4 +205,4 @@ pub record IsUnderWay (files : Files) (before : Devices) (edits : List Edit) (i 
   pub trees : now ≡ group.files
   pub file : group.file ≡ number
   pub made : created ≡ group.created
-  pub come : (n : ℕ) (opened : Open) → (number ≡ None) ⊎ (number ≡ Some n) → open_at now n ≡ Some opened → HasCome files before group.done n opened (work n)
+  pub come : (n : ℕ) (opened : Open) → (number ≡ None) ⊎ (number ≡ Some n) → open_at now n ≡ Some opened → HasCome files before group n opened (work n)

@@ -7,12 +7,12 @@ ghost use Rattle.adf_model.specs.declared.tree.NodeId.{NodeId};
 ghost use Rattle.adf_model.specs.OneFile.{StandsIn};
 ghost use Rattle.adf_model.specs.Tests.{first_refusal};
 ghost use Rattle.adf_model.specs.Edits.{named_nodes, created_by};
-ghost use Rattle.adf_model.specs.Slots.{Open, Slot, Files, Devices, IsTold, AreTrees, open_at, with_slot, device_at};
+ghost use Rattle.adf_model.specs.Slots.{Open, Slot, Files, Devices, AreTrees, open_at, with_slot, device_at};
 ghost use Rattle.adf_model.specs.declared.error.AdfError.{AdfError};
 ghost use Rattle.adf_model.specs.Steps.{MayEdit, OthersOnlyRead, OthersStayPlaced, WriteFailed, SomeOpenFault, AllLaidOut, Changed, Step};
 ghost use Rattle.adf_model.specs.Slots.Slot.{Live};
 ghost use Rattle.adf_model.specs.Calls.{tests_at_entry, resolve};
-ghost use Rattle.adf_follow.specs.Groups.{FileWork, at_rest, OnlyWaits, IsStep, IsUnderWay, IsCommitted, IsTornCommit, IsEditRefusal};
+ghost use Rattle.adf_follow.specs.Groups.{FileWork, at_rest, OnlyWaits, IsStep, IsUnderWay, IsCommitted, IsTornCommit, IsToldBy, IsEditRefusal};
 
 /// A group that is under way goes on: where the entry is passed, the links of the trees in work lead to
 /// nodes of the group's file, and that file does the step. What is open are trees, or no link is met.
@@ -65,8 +65,8 @@ pub fn groups_stop()
         (number : Option ℕ) (created : List NodeId) (work : ℕ → FileWork) (error : AdfError)
         → IsUnderWay files before edits i number created work now
         → ((n : ℕ) → number ≡ Some n → IsSome (open_at now n)) → OnlyWaits files before mid now
-        → IsTold files before → AllLaidOut files before → AreTrees now → slice_get edits i ≡ Some
-        edit → IsEditRefusal now work number edit error → error ≢ AdfError.WriteFault
+        → IsToldBy now mid edit → AllLaidOut files before → slice_get edits i ≡ Some edit
+        → IsEditRefusal now work number edit error → error ≢ AdfError.WriteFault
         → (error ≡ AdfError.ReadFault → SomeOpenFault files before mid) → Step files before
         (Changed edits (Err (record { at = i; error = error }))) mid files }
 {}
