@@ -4,3 +4,4 @@ pub mod FamilyLaws
 pub mod CopyLaws
 pub mod AppendLaws
 pub mod SourceLaws
+pub mod EntryLaws

@@ -1,21 +1,23 @@
 -- What is written of a node, by its header as it was read, and what appending it does.
-use Rattle.std.specs.Prelude.{◌≡◌, ◌⊎◌, ℕ, ◌+◌, ◌==◌, ◌≤◌, Bool, not, cond, List, length, take, is_some, Some, Result, OnOk, IfErr}
+use Rattle.std.specs.Prelude.{◌≡◌, ◌⊎◌, ℕ, ◌+◌, ◌*◌, ◌==◌, ◌≤◌, Bool, not, cond, List, length, take, is_some, map, slice_get, get_or, Option, None, Some, Result, OnOk, IfErr}
 use Rattle.adf_format.specs.Fields.{text_field}
 use Rattle.adf_format.specs.Pointer.{Pointer, Blank, To}
 use Rattle.adf_format.specs.Parts.{node_length}
-use Rattle.adf_format.specs.Records.{NodeRecord}
+use Rattle.adf_format.specs.Records.{NodeRecord, entry_text}
 use Rattle.adf_format.specs.Tree.{Node}
 use Rattle.adf_model.specs.declared.error.AdfError.{AdfError}
 use Rattle.adf_records.specs.declared.NodeHeader.{NodeHeader}
 use Rattle.cg_io.specs.Cause.{Rose}
-use Rattle.cg_io.specs.Device.{DeviceState}
+use Rattle.cg_io.specs.Device.{DeviceState, bytes_at}
 use Rattle.layout_lint.specs.Nodes.{numbers_of}
 use Rattle.packed_laws.specs.PackedForm.{packed_dims, packed_parts, packed_record}
+use Rattle.layout_lint.specs.declared.verdict.NodePlace.{NodePlace}
+use Rattle.adf_format.specs.Spelled.{in_row}
 use Rattle.adf_repack.specs.declared.places.NodeShape.{NodeShape}
 use Rattle.adf_repack.specs.declared.writer.BlockWriter.{BlockWriter}
 use Rattle.adf_model.specs.Counts.{OnlyReads}
 use Rattle.adf_repack.specs.declared.source.Page.{Page}
-use Rattle.adf_repack.specs.Sources.{IsReady, IsUnread}
+use Rattle.adf_repack.specs.Sources.{IsReady, IsUnread, IsBroken}
 use Rattle.adf_repack.specs.Places.{table_room, shape_of}
 use Rattle.adf_repack.specs.Writers.{IsWriter, appended_in, with_more, count_in, blocks_in, state_under, WritesBlocks, OnlyWrites}
 
@@ -72,9 +74,9 @@ pub record Appends {E : Type 0} (state : E → DeviceState) (bytes : List ℕ) (
   pub lost : (state_under state old).lost ≤ (state_under state new).lost
   pub cause : IfErr result (IsUnwritten (state_under state old) (state_under state new))
 
--- As many bytes as these of the file are appended, and where it tells its bytes these; or a read of it or a write of the device failed. The file
--- is only read.
-pub record Copies {B E : Type 0} (is_sound : B → Type 0) (source : B → DeviceState) (target : E → DeviceState) (n : ℕ) (text : List ℕ → List ℕ)
+-- As many bytes as these of the file are appended, and where it tells its bytes these; or a read of it or a write of the device failed, or what was
+-- read breaks a rule. The file is only read.
+pub record Copies {B E : Type 0} (is_sound : B → Type 0) (source : B → DeviceState) (target : E → DeviceState) (broken : ℕ → ℕ → Type 0) (n : ℕ) (text : List ℕ → List ℕ)
     (before after : B) (page : Page) (old new : BlockWriter E) (result : Result Unit AdfError) : Type 0 where
   pub ready : IsReady (is_sound after) (source after).held page
   pub reads : OnlyReads (source before) (source after)
@@ -85,4 +87,21 @@ pub record Copies {B E : Type 0} (is_sound : B → Type 0) (source : B → Devic
   pub effect : OnlyWrites (state_under target old) (state_under target new)
   pub later : (state_under target old).faults ≤ (state_under target new).faults
   pub lost : (state_under target old).lost ≤ (state_under target new).lost
-  pub cause : IfErr result (λ e. IsUnread (source before).faults (source after).faults e ⊎ IsUnwritten (state_under target old) (state_under target new) e)
+  pub cause : IfErr result (λ e. IsUnread (source before).faults (source after).faults e ⊎ (IsUnwritten (state_under target old) (state_under target new) e ⊎ IsBroken broken e))
+
+-- no rule
+abbrev pub no_rule : ℕ → ℕ → Type 0
+no_rule rule place = ⊥
+
+-- ---- the entries of a table
+
+abbrev pub position_in : Option NodePlace → ℕ
+position_in None = 0
+position_in (Some n) = n.position
+
+-- the entry of a child: the name field as it stands in the table of its parent, and the place of its header in the copy
+abbrev pub copied_entry : List ℕ → ℕ → List NodePlace → List ℕ → ℕ → List ℕ
+copied_entry image table nodes headers child = entry_text (bytes_at image (table + 16 + 44 * position_in (slice_get nodes child)) 32) (To (get_or headers child 0))
+
+abbrev pub copied_entries : List ℕ → ℕ → List NodePlace → List ℕ → List ℕ → List ℕ
+copied_entries image table nodes headers children = in_row (map (copied_entry image table nodes headers) children)

@@ -18,3 +18,10 @@ pub record IsReady (Layer : Type 0) (held : Option (List ℕ)) (page : Page) : T
 pub record IsUnread (before now : ℕ) (e : AdfError) : Type 0 where
   pub is : e ≡ AdfError.ReadFault
   pub rose : Rose before now
+
+-- a rule of a layout that the bytes read break, and where
+pub record IsBroken (broken : ℕ → ℕ → Type 0) (e : AdfError) : Type 0 where
+  pub rule : ℕ
+  pub place : ℕ
+  pub is : e ≡ AdfError.Layout rule place
+  pub so : broken rule place

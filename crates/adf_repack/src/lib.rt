@@ -13,7 +13,7 @@ mod reads;
 mod source;
 mod writer;
 
-pub use copies::copy_range;
+pub use copies::{copy_entries, copy_range};
 pub use families::{Families, families_of};
 pub use headers::{copied_is_packed, dimensions_within, file_header, no_lists, packed_header};
 pub use places::{NodeShape, PackedPlaces, check_length, length_is_packed, packed_places};

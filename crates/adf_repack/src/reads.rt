@@ -1,6 +1,6 @@
 //! The headers of the file that is copied and of its nodes.
 
-ghost use Rattle.std.specs.Prelude.{◌≡◌, ◌^◌, ◌+◌, ◌*◌, ◌<◌, ◌≤◌, ◌-◌, None, IfOk, IfErr, min, take};
+ghost use Rattle.std.specs.Prelude.{◌≡◌, ◌⊎◌, ◌^◌, ◌+◌, ◌*◌, ◌<◌, ◌≤◌, ◌-◌, None, IfOk, IfErr, length, min, take};
 ghost use Rattle.adf_format.specs.Names.{data_size};
 ghost use Rattle.adf_format.specs.Parts.{node_length};
 ghost use Rattle.adf_format.specs.FirstFault.{header_rows as file_rows};
@@ -11,7 +11,7 @@ ghost use Rattle.cg_io.specs.Device.{GivesAt};
 ghost use Rattle.layout_lint.specs.Nodes.{numbers_of, table_of};
 ghost use Rattle.node_reads.specs.Headers.{header_rows, IsHeader};
 ghost use Rattle.node_reads.specs.Reads.{ReadAt, Breaks, IsUnread};
-ghost use Rattle.adf_repack.specs.Sources.{IsReady};
+ghost use Rattle.adf_repack.specs.Sources.{IsReady, IsUnread as IsReadFault, IsBroken};
 
 use crate::source::{Page, bytes_at};
 use adf_format::fields::{ENTRY_LENGTH, HEAD_LENGTH};
@@ -125,10 +125,10 @@ pub fn read_name<B: Blocks>(
     ensures ready { IsReady (B.is_sound blocks.new) (B.state blocks.new).held page.new }
     ensures told { IfOk result (GivesAt (B.state blocks.old).held
         (table_of header.now + 16 + 44 * position)) }
+    ensures long { IfOk result (λ name. length name ≡ 32) }
     ensures reads { OnlyReads (B.state blocks.old) (B.state blocks.new) }
-    ensures cause { IfErr result (IsUnread (λ rule at. (rule ≡ 24)
-        × (at ≡ table_of header.now + 16 + 44 * position) × (2 ^ 44 < at + 32))
-        (B.state blocks.old).faults (B.state blocks.new).faults) }
+    ensures cause { IfErr result (λ e. IsReadFault (B.state blocks.old).faults
+        (B.state blocks.new).faults e ⊎ IsBroken (λ rule at. (rule ≡ 24) × (2 ^ 44 < at + 32)) e) }
 {
     let table = table_place(header);
     let at = table + HEAD_LENGTH as u64 + ENTRY_LENGTH as u64 * u64::from(position);
