@@ -5,11 +5,12 @@ use Rattle.std.specs.List.{list_any}
 use Rattle.adf_format.specs.declared.types.Format.{Format}
 use Rattle.adf_format.specs.Tree.{Node}
 use Rattle.adf_model.specs.Edits.{size_of, size_limit}
-use Rattle.sids_rules.specs.Values.{is_ints, has_rank, is_small}
+use Rattle.sids_rules.specs.Values.{is_small}
 use Rattle.sids_rules.specs.Terms.{Head, Range}
 use Rattle.sids_rules.specs.Rules.{is_connected}
 use Rattle.sids_broken.specs.Reading.{bytes_of, first_number, numbers_of}
 use Rattle.sids_broken.specs.Entries.{is_fixed_list}
+use Rattle.sids_broken.specs.Pieces.{is_list}
 use Rattle.sids_broken.proofs.TextLaws.{both}
 
 pub none_left : (p : ℤ → Bool) (format : Format) (wide : Bool) (left : ℕ) (rest : List ℕ) (all : Bool) → left ≤ 0 → list_any p (numbers_of format wide left rest) ≡ all → false ≡ all
@@ -38,10 +39,8 @@ at_most : (a b : ℕ) → nat_le a b ≡ true → a ≤ b
 at_most a b h = grind arith
 
 -- a list of numbers that are looked at
-pub fixed_ints : (head : Head) (range : Range) (node : Node) → is_fixed_list head range node ≡ true → is_ints node ≡ true
-fixed_ints head range node h =
-    let connected = (both (is_connected head range node) (is_small node) (both _ _ h).0).0 in
-    (both (is_ints node) (has_rank 1 node) (both _ _ connected).0).0
+pub fixed_list : (head : Head) (range : Range) (node : Node) → is_fixed_list head range node ≡ true → is_list node ≡ true
+fixed_list head range node h = (both (is_list node) _ (both (is_connected head range node) (is_small node) (both _ _ h).0).0).0
 
 pub fixed_small : (head : Head) (range : Range) (node : Node) → is_fixed_list head range node ≡ true → size_of node ≤ size_limit
 fixed_small head range node h = at_most (size_of node) size_limit (both (is_connected head range node) (is_small node) (both _ _ h).0).1

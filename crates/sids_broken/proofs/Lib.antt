@@ -15,3 +15,4 @@ pub mod OffsetTestLaws
 pub mod BrokenLaws
 pub mod FaceLaws
 pub mod ListedLaws
+pub mod PartLaws

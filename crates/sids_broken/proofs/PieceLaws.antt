@@ -28,7 +28,7 @@ use Rattle.sids_broken.proofs.TextLaws.{both}
 
 -- ---- the pieces of polygons are all numbers
 
-or_assoc : (a b c : Bool) → ((a || b) || c) ≡ (a || (b || c))
+pub or_assoc : (a b c : Bool) → ((a || b) || c) ≡ (a || (b || c))
 or_assoc true b c = refl
 or_assoc false b c = refl
 

@@ -19,3 +19,4 @@ pub mod SectionTests
 pub mod Faces
 pub mod OffsetTests
 pub mod NodeTests
+pub mod Parts

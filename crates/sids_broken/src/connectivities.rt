@@ -64,7 +64,7 @@ fn is_count_off(code: i64, elements: u64, length: u64) -> bool
 
 /// K29 connectivity-nodes, of the connectivity of a section that meets K28, in a zone whose sizes are
 /// known: for a code of fixed nodes, a number under 1, or above the limit where there is one.
-#[tactic(auto, using(crate::proofs::EntryLaws::fixed_ints, crate::proofs::EntryLaws::fixed_small))]
+#[tactic(auto, using(crate::proofs::EntryLaws::fixed_list, crate::proofs::EntryLaws::fixed_small))]
 pub fn breaks_connectivity_nodes<C: TreeCalls>(
     calls: &mut C,
     at: NodeId,

@@ -1,23 +1,26 @@
 //! Tests of the numbers of a connectivity, one number after another. The numbers are not kept.
 
-ghost use Rattle.std.specs.Prelude.{◌≡◌, ◌≤◌, true};
+ghost use Rattle.std.specs.Prelude.{◌≡◌, ◌≤◌, ◌<◌, ◌+◌, ◌*◌, ◌^◌, [], drop, true, unwrap_or};
 ghost use Rattle.std.specs.List.{list_any};
 ghost use Rattle.adf_model.specs.Causes.{OnlyAsks};
 ghost use Rattle.adf_model.specs.Edits.{size_of, size_limit};
 ghost use Rattle.adf_model.specs.Slots.{IsTold};
 ghost use Rattle.sids_views.specs.Asks.{IsValueOr, HasAskCause, IsPlain};
 ghost use Rattle.sids_views.specs.Views.{node_there};
-ghost use Rattle.sids_rules.specs.Values.{is_ints, ints_there};
-ghost use Rattle.sids_rules.specs.Rules.{is_no_vertex};
+ghost use Rattle.sids_rules.specs.Values.{ints_there};
+ghost use Rattle.sids_rules.specs.Rules.{is_no_vertex, first_dimension};
 ghost use Rattle.sids_rules.specs.OffsetRules.{is_in_range, is_no_face};
-ghost use Rattle.sids_broken.specs.Reading.{is_wide};
+ghost use Rattle.sids_broken.specs.Reading.{is_wide, bytes_of, numbers_of};
+ghost use Rattle.sids_broken.specs.Pieces.{is_list};
 ghost use Rattle.sids_broken.specs.Entries.{fails, has_failing};
 
+use crate::node_tests::first_dimension;
 use crate::numbers::{bytes_of, first_number};
+use crate::parts::part_of;
 use crate::sections::ElementRange;
 use adf_format::Listing;
 use adf_model::{AdfError, Format, NodeId, TreeCalls};
-use sids_views::{data_of, format_of};
+use sids_views::{format_of, view_of};
 
 /// What each number of a connectivity has to be.
 #[derive(Drop)]
@@ -74,8 +77,11 @@ fn is_in_range(range: &ElementRange, number: i64) -> bool
     i128::from(range.start()) <= amount && amount <= i128::from(range.end())
 }
 
-/// Whether a number of a node of whole numbers with data, of at most 2^30 bytes, is not what it has to
-/// be. The numbers are wide where each has 8 bytes.
+/// How many numbers are read at a time.
+const PART: u64 = 1 << 16;
+
+/// Whether a number of a list of whole numbers with data, of at most 2^30 bytes, is not what it has to be.
+/// The numbers are wide where each has 8 bytes. They are read in parts, and none is kept.
 pub(crate) fn has_failing_entry<C: TreeCalls>(
     calls: &mut C,
     at: NodeId,
@@ -85,8 +91,8 @@ pub(crate) fn has_failing_entry<C: TreeCalls>(
     requires ready { C.is_ready calls.old }
     requires plain { IsTold (C.files calls.old) (C.devices calls.old)
         → IsPlain (C.files calls.old) at }
-    requires ints { IsTold (C.files calls.old) (C.devices calls.old)
-        → is_ints (node_there (C.files calls.old) at) ≡ true }
+    requires list { IsTold (C.files calls.old) (C.devices calls.old)
+        → is_list (node_there (C.files calls.old) at) ≡ true }
     requires small { IsTold (C.files calls.old) (C.devices calls.old)
         → size_of (node_there (C.files calls.old) at) ≤ size_limit }
     requires width { IsTold (C.files calls.old) (C.devices calls.old)
@@ -100,10 +106,87 @@ pub(crate) fn has_failing_entry<C: TreeCalls>(
         (C.devices calls.new) result }
 {
     match format_of(calls, at) {
-        Ok(format) => match data_of(calls, at) {
-            Ok(bytes) => Ok(has_failing(format, wide, test, bytes.items())),
+        Ok(format) => match view_of(calls, at) {
+            Ok(view) => has_failing_part(calls, at, format, wide, first_dimension(&view), test),
             Err(error) => Err(error),
         },
+        Err(error) => Err(error),
+    }
+}
+
+fn has_failing_part<C: TreeCalls>(
+    calls: &mut C,
+    at: NodeId,
+    format: Format,
+    wide: bool,
+    entries: u64,
+    test: &EntryTest,
+) -> Result<bool, AdfError>
+    requires ready { C.is_ready calls.old }
+    requires plain { IsTold (C.files calls.old) (C.devices calls.old)
+        → IsPlain (C.files calls.old) at }
+    requires list { IsTold (C.files calls.old) (C.devices calls.old)
+        → is_list (node_there (C.files calls.old) at) ≡ true }
+    requires small { IsTold (C.files calls.old) (C.devices calls.old)
+        → size_of (node_there (C.files calls.old) at) ≤ size_limit }
+    requires width { IsTold (C.files calls.old) (C.devices calls.old)
+        → is_wide (node_there (C.files calls.old) at) ≡ wide }
+    requires entries { IsTold (C.files calls.old) (C.devices calls.old)
+        → first_dimension (node_there (C.files calls.old) at).dims ≡ entries }
+    ensures ready { C.is_ready calls.new }
+    ensures only { OnlyAsks (C.files calls.old) (C.devices calls.old)
+        (C.devices calls.new) (C.files calls.new) }
+    ensures value { IsTold (C.files calls.old) (C.devices calls.old)
+        → IsValueOr (list_any (fails test.now) (numbers_of format wide entries (unwrap_or (node_there (C.files calls.old) at).bytes []))) result }
+    ensures cause { HasAskCause (C.files calls.old) (C.devices calls.old)
+        (C.devices calls.new) result }
+{
+    let mut first = 0;
+    while first < entries {
+        let count = PART.min(entries - first);
+        match part_fails(calls, at, format, wide, first, count, test) {
+            Ok(true) => return Ok(true),
+            Ok(false) => {}
+            Err(error) => return Err(error),
+        }
+        first += count;
+    }
+    Ok(false)
+}
+
+/// Whether one of so many numbers from one on is not what it has to be.
+fn part_fails<C: TreeCalls>(
+    calls: &mut C,
+    at: NodeId,
+    format: Format,
+    wide: bool,
+    first: u64,
+    count: u64,
+    test: &EntryTest,
+) -> Result<bool, AdfError>
+    requires ready { C.is_ready calls.old }
+    requires bound { first + count < 2 ^ 64 }
+    requires some { 1 ≤ count }
+    requires plain { IsTold (C.files calls.old) (C.devices calls.old)
+        → IsPlain (C.files calls.old) at }
+    requires list { IsTold (C.files calls.old) (C.devices calls.old)
+        → is_list (node_there (C.files calls.old) at) ≡ true }
+    requires small { IsTold (C.files calls.old) (C.devices calls.old)
+        → size_of (node_there (C.files calls.old) at) ≤ size_limit }
+    requires width { IsTold (C.files calls.old) (C.devices calls.old)
+        → is_wide (node_there (C.files calls.old) at) ≡ wide }
+    requires within { IsTold (C.files calls.old) (C.devices calls.old)
+        → first + count ≤ first_dimension (node_there (C.files calls.old) at).dims }
+    ensures ready { C.is_ready calls.new }
+    ensures only { OnlyAsks (C.files calls.old) (C.devices calls.old)
+        (C.devices calls.new) (C.files calls.new) }
+    ensures value { IsTold (C.files calls.old) (C.devices calls.old)
+        → IsValueOr (list_any (fails test.now) (numbers_of format wide count (drop (first * bytes_of wide) (unwrap_or (node_there (C.files calls.old) at).bytes [])))) result }
+    ensures cause { HasAskCause (C.files calls.old) (C.devices calls.old)
+        (C.devices calls.new) result }
+{
+    match part_of(calls, at, first, count) {
+        Ok(bytes) => Ok(has_failing(format, wide, test, bytes.items())),
         Err(error) => Err(error),
     }
 }

@@ -20,6 +20,7 @@ mod offset_lists;
 mod offset_rules;
 mod offset_section_rules;
 mod overlaps;
+mod parts;
 mod pieces;
 mod rinds;
 mod rule_sets;

@@ -9,7 +9,7 @@ ghost use Rattle.sids_views.specs.Views.{node_there};
 ghost use Rattle.sids_rules.specs.Values.{is_ints, ints_there};
 ghost use Rattle.sids_rules.specs.OffsetRules.{are_offsets, has_bad_piece, has_bad_node};
 ghost use Rattle.sids_broken.specs.Reading.{is_wide};
-ghost use Rattle.sids_broken.specs.Pieces.{IsOffsetSection, offset_state, mixed_fault, polygon_fault, fault_of, piece_fault, fault_with, has_no_face};
+ghost use Rattle.sids_broken.specs.Pieces.{IsOffsetSection, is_list, offset_state, mixed_fault, polygon_fault, fault_of, piece_fault, fault_with, has_no_face};
 
 use crate::entries::{EntryTest, has_failing_entry};
 use crate::node_tests::{is_small_list, is_type};
@@ -217,8 +217,8 @@ fn polygons_there<C: TreeCalls>(
     requires ready { C.is_ready calls.old }
     requires plain { IsTold (C.files calls.old) (C.devices calls.old)
         → IsPlain (C.files calls.old) at }
-    requires ints { IsTold (C.files calls.old) (C.devices calls.old)
-        → is_ints (node_there (C.files calls.old) at) ≡ true }
+    requires list { IsTold (C.files calls.old) (C.devices calls.old)
+        → is_list (node_there (C.files calls.old) at) ≡ true }
     requires small { IsTold (C.files calls.old) (C.devices calls.old)
         → size_of (node_there (C.files calls.old) at) ≤ size_limit }
     requires width { IsTold (C.files calls.old) (C.devices calls.old)
