@@ -1,6 +1,6 @@
 -- The rules of `check` that a node breaks are the tests on it that hold, by what its label says that it is.
-use Rattle.std.proofs.Common.{◌≡◌, ◌∙◌, sym, ap, refl, ℕ, ℤ, Bool, true, false, List, [], ◌∷◌, ◌++◌, ◌||◌}
-use Rattle.std.specs.Prelude.{Option, Some, None, option_map, if◌then◌else◌, not, ◌&&◌}
+use Rattle.std.proofs.Common.{◌≡◌, ◌∙◌, ap, refl, ℤ, Bool, true, false, [], ◌∷◌, ◌||◌}
+use Rattle.std.specs.Prelude.{Option, Some, None, option_map, not, ◌&&◌}
 use Rattle.adf_format.specs.declared.types.DataType.TheVariants.{C1}
 use Rattle.adf_model.specs.declared.tree.NodeId.{NodeId}
 use Rattle.adf_model.specs.Slots.{Files}
@@ -14,7 +14,7 @@ use Rattle.sids_rules.specs.Terms.{Sizes, zone_sizes, sizes_of_zone, vertex_limi
 use Rattle.sids_rules.specs.Rules.{check_rules, broken_numbers, place_kind, is_allowed, has_type, is_no_word, is_no_text, is_filled, Section, section_there}
 use Rattle.sids_rules.proofs.ByKind.{seen, held_are, of_outside, of_version, of_base, of_zone, of_zone_type, of_grid, of_section, of_solution, of_conditions, of_condition, of_array, of_family, of_family_name, of_simulation_type, of_data_class, of_units, of_exponents, of_descriptor, of_user_data, of_rind, of_index_range, of_index_array, of_location}
 use Rattle.sids_broken.specs.Held.{held}
-use Rattle.sids_broken.specs.Around.{zone_numbers, base_around, surroundings, sizes_around, limit_with, limit_around}
+use Rattle.sids_broken.specs.Around.{zone_numbers, surroundings, sizes_around, limit_with, limit_around}
 use Rattle.sids_broken.specs.Entries.{has_no_vertex}
 use Rattle.sids_broken.specs.NodeRules.{is_no_coordinate, is_no_field}
 use Rattle.sids_broken.specs.KindTests.{tests_in}

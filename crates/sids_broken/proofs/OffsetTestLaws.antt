@@ -7,16 +7,15 @@ use Rattle.std.proofs.lemmas.Bool.Decides.{Decides-int_eq}
 use Rattle.std.proofs.lemmas.List.{append-nil}
 use Rattle.adf_model.specs.declared.tree.NodeId.{NodeId}
 use Rattle.adf_model.specs.Slots.{Files}
-use Rattle.adf_model.proofs.Basics.{not_true}
 use Rattle.sids_tables.specs.declared.labels.LabelKind.{LabelKind}
-use Rattle.sids_tables.specs.declared.labels.LabelKind.TheVariants.{Elements, Other}
+use Rattle.sids_tables.specs.declared.labels.LabelKind.TheVariants.{Elements}
 use Rattle.sids_tables.specs.contracts.labels.LabelKindPartialEq.TheImpl as kind_eq
 use Rattle.sids_views.specs.Views.{given, node_there, kind_there}
 use Rattle.sids_rules.specs.declared.seen.Seen.{Seen}
 use Rattle.sids_rules.specs.Values.{ints_there, is_small}
 use Rattle.sids_rules.specs.Terms.{zone_sizes, vertex_limit}
 use Rattle.sids_rules.specs.Rules.{Rule, check_rules, broken_of, broken_numbers, Section, section_there}
-use Rattle.sids_rules.specs.OffsetRules.{offset_rules, check4_rules, offset_child, offset_section, offset_section_of, OffsetSection, has_pieces, has_bad_pieces, has_bad_piece, has_bad_node, has_bad_piece_node, has_bad_offsets, is_no_face, face_ranges}
+use Rattle.sids_rules.specs.OffsetRules.{offset_rules, check4_rules, offset_child, offset_section_of, OffsetSection, has_pieces, has_bad_pieces, has_bad_piece, has_bad_node, has_bad_piece_node, has_bad_offsets, is_no_face, face_ranges}
 use Rattle.sids_rules.proofs.ByKind.{seen, held_are}
 use Rattle.sids_broken.specs.declared.around.Surroundings.{Surroundings}
 use Rattle.sids_broken.specs.declared.rule_sets.RuleSet.{RuleSet}
@@ -26,9 +25,9 @@ use Rattle.sids_broken.specs.declared.pieces.PieceFault.{PieceFault}
 use Rattle.sids_broken.specs.declared.pieces.PieceFault.TheVariants as fault
 use Rattle.sids_broken.specs.RuleSets.{rules_of}
 use Rattle.sids_broken.specs.Held.{held}
-use Rattle.sids_broken.specs.Around.{zone_numbers, surroundings, limit_with, limit_around}
-use Rattle.sids_broken.specs.Pieces.{fault_of, mixed_fault, polygon_fault, piece_fault, has_no_face}
-use Rattle.sids_broken.specs.SectionTests.{section_parts, section_tests}
+use Rattle.sids_broken.specs.Around.{zone_numbers, surroundings, limit_around}
+use Rattle.sids_broken.specs.Pieces.{piece_fault}
+use Rattle.sids_broken.specs.SectionTests.{section_parts}
 use Rattle.sids_broken.specs.OffsetTests.{lacks_list, is_list_off, listed, is_bad_piece, is_bad_node, lacks_face, piece_tests, offset_tests}
 use Rattle.sids_broken.specs.NodeTests.{tests_with_place}
 use Rattle.sids_broken.proofs.TextLaws.{or_false}

@@ -1,7 +1,7 @@
 -- A part of a list: so many elements from one on, and the numbers in their bytes.
-use Rattle.std.proofs.Common.{◌≡◌, ◌∙◌, sym, ap, subst, refl, arith, ℕ, zero, suc, ◌+◌, ◌-◌, ◌*◌, ◌≤◌, ◌<◌, ℤ, Bool, true, false, List, [], ◌∷◌, ◌++◌, length, take, drop, length-drop, map}
+use Rattle.std.proofs.Common.{◌≡◌, ◌∙◌, sym, ap, subst, refl, arith, ℕ, zero, suc, ◌+◌, ◌-◌, ◌*◌, ◌≤◌, ℤ, Bool, true, false, List, [], ◌∷◌, ◌++◌, length, take, drop, length-drop, map}
 use Rattle.std.specs.Prelude.{◌/◌, ◌||◌, ◌&&◌, ◌==◌, not, nat_le, unwrap_or, is_some, if◌then◌else◌, Option, Some, None, Result, Ok, Err, IfOk}
-use Rattle.std.specs.List.{flat_map, list_any}
+use Rattle.std.specs.List.{list_any}
 use Rattle.std.specs.Int.{w32, w64}
 use Rattle.std.proofs.lemmas.List.{append-nil, drop-drop, drop-take, get_or-take, length-take-le}
 use Rattle.std.proofs.lemmas.Bool.{le-ltb}
@@ -19,7 +19,7 @@ use Rattle.adf_model.specs.declared.tree.Selection.{Selection}
 use Rattle.adf_model.specs.Tests.{checked, and_then}
 use Rattle.adf_model.specs.Edits.{size_of, size_limit}
 use Rattle.adf_model.specs.Answers.{bytes_of as answered_bytes}
-use Rattle.adf_model.specs.Selection.{spaced, indices, elements_from, elements, element_bytes, selection_fits}
+use Rattle.adf_model.specs.Selection.{spaced, elements_from, elements, element_bytes, selection_fits}
 use Rattle.adf_model.proofs.Basics.{not_true}
 use Rattle.sids_views.specs.Asks.{IsValueOr}
 use Rattle.sids_views.specs.Replies.{as_bytes}

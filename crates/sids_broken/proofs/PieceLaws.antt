@@ -1,9 +1,8 @@
 -- Pieces between offsets, and what is known of a section with offsets.
 use Rattle.std.proofs.Common.{◌≡◌, ◌∙◌, sym, ap, subst, refl, arith, ℕ, zero, suc, ◌+◌, ◌-◌, ◌≤◌, ℤ, pos, negsuc, ◌≤ℤ◌, Bool, true, false, List, [], ◌∷◌, length, take, drop}
-use Rattle.std.specs.Prelude.{◌&&◌, ◌||◌, ◌==◌, ◌*◌, nat_le, int_le, if◌then◌else◌, not, unsigned_abs, is_some, unwrap_or, Option, Some, None}
+use Rattle.std.specs.Prelude.{◌&&◌, ◌||◌, ◌==◌, int_le, if◌then◌else◌, not, unsigned_abs, Option, Some, None}
 use Rattle.std.specs.List.{list_any}
 use Rattle.std.specs.Int.{Width, w32, w64}
-use Rattle.std.specs.Ordering.{int_eq}
 use Rattle.std.proofs.lemmas.Int.{ints}
 use Rattle.std.proofs.lemmas.List.{drop-drop}
 use Rattle.std.proofs.lemmas.Bool.Decides.{Decides-eqb, Decides-int_eq}
@@ -14,10 +13,9 @@ use Rattle.adf_format.specs.Tree.{Node}
 use Rattle.adf_model.specs.Slots.{Files}
 use Rattle.adf_model.proofs.Basics.{not_true}
 use Rattle.sids_views.specs.Views.{node_there, given}
-use Rattle.sids_rules.specs.Values.{is_type, is_ints, has_rank, is_small, ints_of, ints_in, ints_there, numbers_in}
+use Rattle.sids_rules.specs.Values.{is_type, is_ints, has_rank, is_small, ints_there, numbers_in}
 use Rattle.sids_rules.specs.Rules.{first_dimension, is_no_vertex}
-use Rattle.sids_rules.specs.Offsets.{piece_between}
-use Rattle.sids_rules.specs.OffsetRules.{OffsetSection, begins_at_0, never_falls, ends_at, are_offsets, pieces_of, entry_count, has_pieces, has_bad_offsets, has_bad_node}
+use Rattle.sids_rules.specs.OffsetRules.{OffsetSection, begins_at_0, never_falls, ends_at, are_offsets, pieces_of, entry_count, has_bad_offsets, has_bad_node}
 use Rattle.sids_rules.proofs.Decided.{le_decides}
 use Rattle.sids_broken.specs.declared.offset_lists.OffsetState.{OffsetState}
 use Rattle.sids_broken.specs.declared.offset_lists.OffsetState.TheVariants as state

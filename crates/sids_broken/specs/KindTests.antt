@@ -1,5 +1,5 @@
 -- The tests on a node, by what its label says that it is: each with the number of its rule, rising. The rule of places comes before them.
-use Rattle.std.specs.Prelude.{ℕ, ◌*◌, ℤ, pos, Bool, false, not, ◌&&◌, ◌||◌, nat_lt, int_lt, if◌then◌else◌, List, [], ◌∷◌, codes, bytes_eq, Option, Some, None, is_none, is_some}
+use Rattle.std.specs.Prelude.{ℕ, ◌*◌, pos, Bool, not, ◌&&◌, ◌||◌, nat_lt, int_lt, List, [], ◌∷◌, codes, bytes_eq, Option, Some, None, is_none}
 use Rattle.std.specs.List.{list_any}
 use Rattle.adf_format.specs.declared.types.DataType.TheVariants.{R4}
 use Rattle.adf_model.specs.declared.tree.NodeId.{NodeId}
@@ -10,7 +10,7 @@ use Rattle.sids_tables.specs.Words.{grid_locations, zone_types, bc_types}
 use Rattle.sids_rules.specs.declared.zones.RuleKind.{RuleKind}
 use Rattle.sids_views.specs.Views.{given, node_there, kind_there, children_there, count_of}
 use Rattle.sids_rules.specs.Values.{is_array_of, is_ints_of, text_of, are_dims}
-use Rattle.sids_rules.specs.Terms.{Dimensions, base_dimensions, are_dimensions, Sizes, zone_sizes, zone_kind, has_child, coordinate_dims, field_dims}
+use Rattle.sids_rules.specs.Terms.{Dimensions, are_dimensions, Sizes, zone_sizes, zone_kind, has_child, coordinate_dims, field_dims}
 use Rattle.sids_rules.specs.Rules.{is_index_off, are_cells_off, is_boundary_off, is_no_word, has_type, is_filled, are_points_off}
 use Rattle.sids_tables.specs.declared.labels.LabelKind.TheVariants as kind
 use Rattle.sids_broken.specs.NodeRules.{is_no_coordinate, is_no_field, is_no_small_node}

@@ -1,6 +1,5 @@
 -- The tests on a node that is not the first of a walk, by what its label says that it is.
 use Rattle.std.specs.Prelude.{ℕ, ℤ, Bool, not, List, [], ◌∷◌, ◌++◌, Option, IfSome}
-use Rattle.adf_model.specs.declared.tree.NodeId.{NodeId}
 use Rattle.adf_model.specs.Slots.{Files}
 use Rattle.sids_tables.specs.declared.labels.LabelKind.{LabelKind}
 use Rattle.sids_tables.specs.declared.labels.LabelKind.TheVariants.{CgnsBase, Zone, DataArray, Rind, Bc, Elements, Other}

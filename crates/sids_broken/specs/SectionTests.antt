@@ -1,12 +1,11 @@
 -- What the children of a section tell, and the tests on it.
-use Rattle.std.specs.Prelude.{◌≡◌, ℕ, ℤ, Bool, true, false, not, ◌&&◌, List, [], ◌∷◌, ◌++◌, Option, Some, None, IfSome, is_none, is_some}
+use Rattle.std.specs.Prelude.{ℕ, ℤ, Bool, not, ◌&&◌, List, [], ◌∷◌, ◌++◌, Option, is_none}
 use Rattle.std.specs.List.{list_any}
 use Rattle.adf_model.specs.declared.tree.NodeId.{NodeId}
 use Rattle.adf_model.specs.Slots.{Files}
-use Rattle.sids_views.specs.Asks.{IsPlain}
 use Rattle.sids_views.specs.Views.{node_there, given, is_same_node}
-use Rattle.sids_rules.specs.Terms.{Head, section_head, is_head, Range, section_range, is_range, good_range, if_passes, connectivity_child}
-use Rattle.sids_rules.specs.Rules.{Section, whole_section, section_there, is_connected, meets, ranges_of, sections_before}
+use Rattle.sids_rules.specs.Terms.{section_head, is_head, Range, section_range, is_range, if_passes, connectivity_child}
+use Rattle.sids_rules.specs.Rules.{Section, whole_section, is_connected, meets, ranges_of, sections_before}
 use Rattle.sids_broken.specs.Entries.{has_no_vertex}
 use Rattle.sids_broken.specs.declared.section_parts.SectionParts.{SectionParts}
 

@@ -1,10 +1,9 @@
 //! The rules that a seen node breaks.
 
-ghost use Rattle.std.specs.Prelude.{◌≡◌, ◌++◌, ◌∷◌, [], not, Some};
+ghost use Rattle.std.specs.Prelude.{◌≡◌, ◌++◌, ◌∷◌, not, Some};
 ghost use Rattle.adf_model.specs.Causes.{OnlyAsks};
 ghost use Rattle.adf_model.specs.Slots.{IsTold};
 ghost use Rattle.sids_views.specs.Asks.{IsValueOr, HasAskCause, IsPlain};
-ghost use Rattle.sids_views.specs.Views.{kind_there};
 ghost use Rattle.sids_rules.specs.SeenNodes.{IsSeen};
 ghost use Rattle.sids_rules.specs.Rules.{check_rules, broken_numbers, place_kind, is_allowed};
 ghost use Rattle.sids_rules.specs.OffsetRules.{check4_rules};

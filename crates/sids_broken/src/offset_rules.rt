@@ -1,12 +1,12 @@
 //! Rules on sections whose elements begin where a list of offsets says.
 
-ghost use Rattle.std.specs.Prelude.{◌≡◌, ◌&&◌, not, true, Some, is_some, is_none, IfSome};
+ghost use Rattle.std.specs.Prelude.{◌≡◌, ◌&&◌, not, true, Some, is_some, is_none};
 ghost use Rattle.std.specs.List.{AllByRecursion};
 ghost use Rattle.adf_model.specs.Causes.{OnlyAsks};
 ghost use Rattle.adf_model.specs.Slots.{IsTold};
 ghost use Rattle.sids_views.specs.Asks.{IsValueOr, HasAskCause, IsPlain};
 ghost use Rattle.sids_views.specs.Views.{node_there};
-ghost use Rattle.sids_rules.specs.Terms.{section_range, is_range, element_count};
+ghost use Rattle.sids_rules.specs.Terms.{section_range, is_range};
 ghost use Rattle.sids_rules.specs.OffsetRules.{offset_child, wants_offsets, has_offsets, has_offset_size};
 ghost use Rattle.sids_broken.specs.OffsetParts.{offset_there, offset_in, lacks_offsets, shows_offset_size};
 

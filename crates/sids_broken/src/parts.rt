@@ -4,7 +4,7 @@ ghost use Rattle.std.specs.Prelude.{◌≡◌, ◌≤◌, ◌<◌, ◌+◌, ◌*
 ghost use Rattle.adf_model.specs.Answers.{IsReplyTo};
 ghost use Rattle.adf_model.specs.Causes.{OnlyAsks};
 ghost use Rattle.adf_model.specs.Edits.{size_of, size_limit};
-ghost use Rattle.adf_model.specs.Selection.{selection_fits, elements, spaced};
+ghost use Rattle.adf_model.specs.Selection.{elements};
 ghost use Rattle.adf_model.specs.Slots.{IsTold, AreTrees};
 ghost use Rattle.adf_model.specs.Steps.{IsAnswer};
 ghost use Rattle.adf_model.specs.Tests.{and_then};

@@ -1,9 +1,9 @@
-use Rattle.std.proofs.Common.{◌≡◌, ◌∙◌, sym, ap, subst, ◌*◌, [], length, drop}
+use Rattle.std.proofs.Common.{◌∙◌, ap, ◌*◌, [], length, drop}
 use Rattle.std.specs.Prelude.{unwrap_or}
 use Rattle.std.specs.List.{list_any}
 use Rattle.sids_views.specs.Views.{node_there}
 use Rattle.sids_broken.specs.Parts.{part_bytes}
-use Rattle.sids_broken.specs.Reading.{bytes_of, is_wide}
+use Rattle.sids_broken.specs.Reading.{bytes_of}
 use Rattle.sids_broken.specs.Entries.{fails}
 use Rattle.sids_broken.proofs.PartLaws.{part_numbers}
 use Rattle.sids_broken.proofs.entries.part_fails.Goals as goal

@@ -1,4 +1,4 @@
-use Rattle.std.proofs.Common.{◌≡◌, ◌∙◌, sym, ap, ◌+◌, ◌∷◌, ◌++◌, drop}
+use Rattle.std.proofs.Common.{◌∙◌, sym, ap, ◌+◌, ◌∷◌, ◌++◌, drop}
 use Rattle.std.specs.Prelude.{filter_map, List, Option}
 use Rattle.sids_rules.specs.Terms.{Range}
 use Rattle.std.specs.List.{cons_option}

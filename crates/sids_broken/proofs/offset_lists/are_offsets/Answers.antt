@@ -1,4 +1,4 @@
-use Rattle.std.proofs.Common.{◌≡◌, refl, sym, ap, ◌∙◌, Bool, true, false, not}
+use Rattle.std.proofs.Common.{◌≡◌, refl, ap, ◌∙◌, Bool, true, false, not}
 use Rattle.std.proofs.lemmas.Bool.Decides.{same_from_decides, Decides-not}
 use Rattle.sids_rules.specs.OffsetRules.{are_offsets}
 use Rattle.sids_rules.proofs.OffsetsDecided.{offsets_decided}

@@ -1,7 +1,7 @@
-use Rattle.std.proofs.Common.{◌≡◌, ◌∙◌, sym, pos, true, false}
+use Rattle.std.proofs.Common.{◌∙◌, sym, pos, true, false}
 use Rattle.std.proofs.lemmas.Bool.Decides.{same_from_decides}
 use Rattle.std.proofs.lemmas.Bool.{false≢true}
-use Rattle.sids_rules.specs.OffsetRules.{has_bad_piece, has_bad_node, has_bad_piece_node}
+use Rattle.sids_rules.specs.OffsetRules.{has_bad_node, has_bad_piece_node}
 use Rattle.sids_rules.proofs.OffsetsDecided.{offsets_decided, mixed_pieces_decided, piece_nodes_decided}
 use Rattle.sids_broken.proofs.TextLaws.{or_false}
 use Rattle.sids_broken.proofs.pieces.has_bad_node.Goals as goal

@@ -1,4 +1,4 @@
-use Rattle.std.proofs.Common.{refl, true, ◌&&◌, pos}
+use Rattle.std.proofs.Common.{◌&&◌, pos}
 use Rattle.std.specs.Ordering.{int_eq}
 use Rattle.std.proofs.lemmas.Bool.Decides.{same_from_decides, Decides-and, Decides-int_eq}
 use Rattle.sids_rules.specs.OffsetRules.{has_bad_piece}

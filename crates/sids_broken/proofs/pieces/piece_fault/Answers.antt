@@ -1,5 +1,4 @@
 use Rattle.std.proofs.Common.{◌≡◌, ◌∙◌, sym, ap, subst, true, length}
-use Rattle.adf_model.specs.Slots.{Files}
 use Rattle.sids_views.specs.Asks.{IsValueOr}
 use Rattle.sids_rules.specs.Values.{ints_there}
 use Rattle.sids_rules.specs.OffsetRules.{are_offsets}

@@ -1,4 +1,4 @@
-use Rattle.std.proofs.Common.{◌≡◌, ◌∙◌, sym}
+use Rattle.std.proofs.Common.{◌∙◌, sym}
 use Rattle.sids_rules.specs.Values.{ints_there}
 use Rattle.sids_broken.proofs.PieceLaws.{polygon_found, polygon_clean}
 use Rattle.sids_broken.proofs.pieces.polygons_there.Goals as goal
