@@ -1,1 +1,2 @@
 pub mod PlainTrees
+pub mod LinkRules

@@ -13,3 +13,5 @@ mod plain_trees;
 mod tables;
 #[cfg(test)]
 mod tree_rules;
+#[cfg(test)]
+mod walks;

@@ -29,12 +29,14 @@ pub enum Target {
     Nowhere,
 }
 
-/// A table of nodes, and the byte order of their numbers.
+/// A table of nodes, and the byte order of their numbers. One question may be told to fail.
 #[derive(Drop)]
 pub struct PlainTrees<'a> {
     alloc: Global,
     rows: &'a [Row<'a>],
     format: Format,
+    asked: u64,
+    failing: u64,
 }
 
 impl<'a> PlainTrees<'a> {
@@ -43,7 +45,14 @@ impl<'a> PlainTrees<'a> {
             alloc,
             rows,
             format,
+            asked: 0,
+            failing: 0,
         }
+    }
+
+    /// Makes the k-th question, from 1, the one that fails for want of memory.
+    pub fn fail_at(&mut self, k: u64) {
+        self.failing = k;
     }
 }
 
@@ -55,7 +64,9 @@ impl<'a> TreeCalls for PlainTrees<'a> {
     ghost is_ready = { λ _. Unit {0} };
 
     fn ask(&mut self, query: &Query) -> Result<Reply, AdfError> {
-        answer(self.alloc, self.rows, self.format, query)
+        self.asked = self.asked.saturating_add(1);
+        let fails = self.asked == self.failing;
+        answer(self.alloc, self.rows, self.format, fails, query)
     }
 
     fn edit(&mut self, edits: &[Edit]) -> Result<Serials, EditError> {
@@ -70,9 +81,18 @@ impl<'a> TreeCalls for PlainTrees<'a> {
     }
 }
 
-fn answer(alloc: Global, rows: &[Row], format: Format, query: &Query) -> Result<Reply, AdfError>
+fn answer(
+    alloc: Global,
+    rows: &[Row],
+    format: Format,
+    fails: bool,
+    query: &Query,
+) -> Result<Reply, AdfError>
     ensures { IsPlainReply query.now result }
 {
+    if fails {
+        return Err(AdfError::Memory);
+    }
     let node = asked_node(query);
     let row = match row_at(rows, node) {
         Some(row) => row,
