@@ -1,5 +1,5 @@
 -- What is found of links is what the rule tells.
-use Rattle.std.proofs.Common.{◌≡◌, ◌∙◌, sym, subst, refl, cond, ℕ, List, [], ◌∷◌}
+use Rattle.std.proofs.Common.{◌≡◌, ◌∙◌, sym, subst, refl, cond, ℕ, List, []}
 use Rattle.std.specs.Prelude.{map, Option, Some, None, is_none, Result, Ok, Err, IfOk, IfErr}
 use Rattle.adf_model.specs.declared.error.AdfError.{AdfError}
 use Rattle.adf_model.specs.declared.error.AdfError.TheVariants.{Memory}
@@ -7,7 +7,7 @@ use Rattle.adf_model.specs.declared.tree.NodeId.{NodeId}
 use Rattle.adf_model.specs.Slots.{Files, Devices}
 use Rattle.sids_views.specs.Asks.{IsValueOr, HasAskCause}
 use Rattle.sids_rules.specs.declared.seen.Seen.{Seen}
-use Rattle.sids_rules.specs.Rules.{Rule, rule, breaks_link, broken_numbers, check_rules}
+use Rattle.sids_rules.specs.Rules.{Rule, broken_numbers, check_rules}
 use Rattle.sids_rules.specs.OffsetRules.{offset_rules}
 use Rattle.cgns_check.specs.Words.{AreWorded}
 use Rattle.checker_tests.specs.LinkRules.{link_rules, link_numbers}

@@ -1,6 +1,6 @@
 -- What the table answers may be answered over a device that tells nothing.
-use Rattle.std.proofs.Common.{◌≡◌, ◌≢◌, sym, subst, refl, arith, ℕ, zero, suc, ◌<◌, ◌≤◌, Bool, true, false, List, [], ◌∷◌, inl, inr}
-use Rattle.std.specs.Prelude.{Option, Some, None, is_some, IsSome, Result, Ok, Err, IsTrue, length}
+use Rattle.std.proofs.Common.{◌≡◌, sym, subst, refl, arith, ℕ, zero, suc, ◌<◌, true, List, [], ◌∷◌, inl, inr}
+use Rattle.std.specs.Prelude.{Option, Some, None, IsSome, Result, Ok, Err, length}
 use Rattle.adf_model.specs.declared.error.AdfError.{AdfError}
 use Rattle.adf_model.specs.declared.error.AdfError.TheVariants.{Memory, NoData, LinkMissing}
 use Rattle.adf_model.specs.declared.error.EditError.{EditError}
@@ -9,11 +9,11 @@ use Rattle.adf_model.specs.declared.tree.NodeId.{NodeId}
 use Rattle.adf_model.specs.declared.tree.Query.{Query}
 use Rattle.adf_model.specs.declared.tree.Reply.{Reply}
 use Rattle.adf_model.specs.Tests.{first_refusal}
-use Rattle.adf_model.specs.Slots.{Open, Files, Devices, IsTold, IsToldAt, slot_at, open_at, device_at}
+use Rattle.adf_model.specs.Slots.{Open, IsTold, IsToldAt, slot_at, open_at, device_at}
 use Rattle.adf_model.specs.Calls.{tests_of_files}
-use Rattle.adf_model.specs.Answers.{asked_node, may_refuse, IsReplyTo}
-use Rattle.adf_model.specs.Causes.{OnlyAsks, EntersFiles, AskedAnyway}
-use Rattle.adf_model.specs.Steps.{OthersOnlyRead, Call, IsRefusedBy}
+use Rattle.adf_model.specs.Answers.{asked_node, may_refuse}
+use Rattle.adf_model.specs.Causes.{OnlyAsks}
+use Rattle.adf_model.specs.Steps.{OthersOnlyRead, IsRefusedBy}
 use Rattle.adf_model.specs.Steps.Call.{Asked, Changed}
 use Rattle.adf_model.specs.Runs.{Makes, IsToldFor, KeepsLayouts}
 use Rattle.adf_model.proofs.Basics.{not_true, not_there}

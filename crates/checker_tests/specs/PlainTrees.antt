@@ -1,5 +1,5 @@
 -- Trees that answer questions of one file from a table, over a device that tells nothing.
-use Rattle.std.specs.Prelude.{◌≡◌, true, IsTrue, [], ◌∷◌, None, Some, Result, Ok, Err, ⊤}
+use Rattle.std.specs.Prelude.{◌≡◌, true, IsTrue, [], ◌∷◌, Some, Result, Ok, Err}
 use Rattle.adf_format.specs.declared.types.Format.TheVariants.{Little}
 use Rattle.adf_format.specs.Tree.{fresh_root}
 use Rattle.adf_model.specs.declared.error.AdfError.{AdfError}
