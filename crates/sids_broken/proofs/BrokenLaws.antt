@@ -34,12 +34,12 @@ module _ (files : Files) (s : Seen) where
 no_offsets_lost : (files : Files) (node : NodeId) (parent base zone : Option NodeId)
     → broken_numbers offset_rules files (record { node = node; target = None; parent = parent; base = base; zone = zone }) ≡ []
 unfolding offset_rules
-no_offsets_lost files node parent base in_zone = refl
+no_offsets_lost files node parent base above = refl
 
 no_offsets_root : (files : Files) (node at : NodeId) (base zone : Option NodeId)
     → broken_numbers offset_rules files (record { node = node; target = Some at; parent = None; base = base; zone = zone }) ≡ []
 unfolding offset_rules
-no_offsets_root files node at base in_zone = refl
+no_offsets_root files node at base above = refl
 
 lost : (files : Files) (node : NodeId) (target parent base zone : Option NodeId) (rules : RuleSet) → target ≡ None
     → broken_numbers (rules_of rules) files (record { node = node; target = target; parent = parent; base = base; zone = zone }) ≡ 1 ∷ []

@@ -134,28 +134,28 @@ numbers_are : (files : Files) (zone : Option NodeId) (o : Option OffsetSection)
     )
     ∷ [])
     ≡ held (piece_tests files zone (limit_around (option_map (zone_numbers files) zone)) o)
-numbers_are files zone None = refl
-numbers_are files zone (Some s) =
-    let limit = limit_around (option_map (zone_numbers files) zone) in
+numbers_are files above None = refl
+numbers_are files above (Some s) =
+    let limit = limit_around (option_map (zone_numbers files) above) in
     ap (λ b. held ((37, has_bad_offsets files s) ∷ (38, b) ∷ (
       39,
-      given zone (λ in_zone. given (zone_sizes files in_zone) (λ sizes.
+      given above (λ in_zone. given (zone_sizes files in_zone) (λ sizes.
           has_pieces files s && not (has_bad_pieces files s) && has_bad_piece_node s.code (ints_there files s.connectivity) (ints_there files s.offsets) (vertex_limit files in_zone sizes))),
     )
     ∷ (
       40,
-      given zone (λ in_zone. int_eq s.code (pos 23) && not (has_bad_offsets files s) && is_small (node_there files s.connectivity)
+      given above (λ in_zone. int_eq s.code (pos 23) && not (has_bad_offsets files s) && is_small (node_there files s.connectivity)
           && list_any (is_no_face (face_ranges files in_zone)) (ints_there files s.connectivity)),
     ) ∷ []))
     (pieces_are files s limit)
     ∙ ap (λ b. held ((37, has_bad_offsets files s) ∷ (38, is_bad_piece (piece_fault files s limit)) ∷ (39, b)
     ∷ (
       40,
-      given zone (λ in_zone. int_eq s.code (pos 23) && not (has_bad_offsets files s) && is_small (node_there files s.connectivity)
+      given above (λ in_zone. int_eq s.code (pos 23) && not (has_bad_offsets files s) && is_small (node_there files s.connectivity)
           && list_any (is_no_face (face_ranges files in_zone)) (ints_there files s.connectivity)),
     ) ∷ []))
-    (nodes_around files zone (λ l. has_pieces files s && not (has_bad_pieces files s) && has_bad_piece_node s.code (ints_there files s.connectivity) (ints_there files s.offsets) l) ∙ nodes_are files s limit)
-    ∙ ap (λ b. held ((37, has_bad_offsets files s) ∷ (38, is_bad_piece (piece_fault files s limit)) ∷ (39, is_bad_node (piece_fault files s limit)) ∷ (40, b) ∷ [])) (faces_are files zone s)
+    (nodes_around files above (λ l. has_pieces files s && not (has_bad_pieces files s) && has_bad_piece_node s.code (ints_there files s.connectivity) (ints_there files s.offsets) l) ∙ nodes_are files s limit)
+    ∙ ap (λ b. held ((37, has_bad_offsets files s) ∷ (38, is_bad_piece (piece_fault files s limit)) ∷ (39, is_bad_node (piece_fault files s limit)) ∷ (40, b) ∷ [])) (faces_are files above s)
 
 -- ---- both lists of rules
 

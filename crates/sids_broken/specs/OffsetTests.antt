@@ -55,13 +55,13 @@ state_tests files zone limit section =
     ∷ []
 
 abbrev pub piece_tests : Files → Option NodeId → Option (Option ℤ) → Option OffsetSection → List (ℕ × Bool)
-piece_tests files in_zone limit None = []
-piece_tests files in_zone limit (Some section) = (37, has_bad_offsets files section) ∷ state_tests files in_zone limit section
+piece_tests files above limit None = []
+piece_tests files above limit (Some section) = (37, has_bad_offsets files section) ∷ state_tests files above limit section
 
 abbrev pub offset_tests : Files → Option NodeId → Option (Option ℤ) → SectionParts → Option NodeId → List (ℕ × Bool)
 offset_tests files zone limit parts offsets =
     (35, lacks_list parts offsets) ∷ (36, is_list_off files parts offsets) ∷ piece_tests files zone limit (listed files (whole parts) offsets)
 
 abbrev pub offset_tests_of : RuleSet → Files → Option NodeId → Option (Option ℤ) → NodeId → SectionParts → List (ℕ × Bool)
-offset_tests_of set.Check files in_zone limit at parts = []
-offset_tests_of set.Check4 files in_zone limit at parts = offset_tests files in_zone limit parts (offset_child files at)
+offset_tests_of set.Check files above limit at parts = []
+offset_tests_of set.Check4 files above limit at parts = offset_tests files above limit parts (offset_child files at)
