@@ -86,7 +86,7 @@ module _ (before mid later : Devices) (n : ℕ) (read : OthersOnlyRead None befo
     faults = (let x = one.faults in let y = other.faults in omega (arith, x, y));
   }
 
-  all_others : OthersOnlyRead (Some n) before later
+  pub all_others : OthersOnlyRead (Some n) before later
   all_others = record {
     count = others.count ∙ read.count;
     others = λ k apart. only_read (device_at before k) (device_at mid k) (device_at later k) (read.others k (not_none k)) (others.others k apart);
@@ -98,7 +98,7 @@ module _ (before mid later : Devices) (n : ℕ) (read : OthersOnlyRead None befo
     };
   }
 
-  all_placed : OthersStayPlaced (Some n) before later
+  pub all_placed : OthersStayPlaced (Some n) before later
   all_placed = λ k apart. others_placed k apart ∙ placed k (not_none k)
 
   same_held : (device_at mid n).held ≡ (device_at before n).held
@@ -109,6 +109,15 @@ module _ (before mid later : Devices) (n : ℕ) (read : OthersOnlyRead None befo
 
   same_writes : (device_at mid n).writes ≡ (device_at before n).writes
   same_writes = (read.others n (not_none n)).writes
+
+  -- a write that failed then is one of the whole
+  pub failed_after : WriteFailed (device_at mid n) (device_at later n) → WriteFailed (device_at before n) (device_at later n)
+  failed_after failed =
+      let counts = read.counts n in
+      let lost_same = (read.others n (not_none n)).lost in
+      let writes_same = same_writes in
+      let a = failed.faults in let b = failed.lost in let c = failed.writes in
+      record { faults = (let le = counts.faults in omega (arith, le, a)); lost = omega (arith, lost_same, b); writes = omega (arith, writes_same, c) }
 
 -- ---- all edits are done
 
@@ -197,7 +206,7 @@ module _ (files now : Files) (before mid later : Devices) (edits : List Edit) (n
         broken = refl;
         others = all_read;
         placed = all_stay;
-        failed = failed_then;
+        failed = failed_after before mid later n waits.devices waits.placed others others_placed failed;
         own = own;
         was = come.was;
         entered = come.there;
@@ -211,14 +220,6 @@ module _ (files now : Files) (before mid later : Devices) (edits : List Edit) (n
     (of_file (IsWithinCost before later) (within h.cost), of_file (HaveRoom before) ((work n).placement, come.placed)),
     tt,
   )
-    where
-      failed_then : WriteFailed old_device new_device
-      failed_then =
-          let read = waits.devices.counts n in
-          let lost_same = (waits.devices.others n (λ e. not_there n (sym e))).lost in
-          let writes_same = writes_then in
-          let a = failed.faults in let b = failed.lost in let c = failed.writes in
-          record { faults = (let le = read.faults in omega (arith, le, a)); lost = omega (arith, lost_same, b); writes = omega (arith, writes_same, c) }
 
 pub ends : (files now : Files) (before mid later : Devices) (edits : List Edit) (n : ℕ) (created : List NodeId) (work : ℕ → FileWork) → IsUnderWay files before edits (length edits) (Some n) created work now → IsSome (open_at now n) → OnlyWaits files before mid now → MayEdit files edits n
     → OthersOnlyRead (Some n) mid later → OthersStayPlaced (Some n) mid later → (IsSome (device_at mid n).held → IsSome (device_at later n).held) → ((was : Open) → open_at files n ≡ Some was → IsCommitted was (work n) (device_at mid n) (device_at later n))

@@ -14,3 +14,8 @@ pub mod RefusedEdit
 pub mod DoneAmong
 pub mod FileSteps
 pub mod GroupEnds
+pub mod Dropped
+pub mod Standings
+pub mod Going
+pub mod GoingTold
+pub mod GoingMakes

@@ -19,7 +19,7 @@ told_in_on files after before now number leaves told = (asks_keep files after be
 
 -- ---- causes
 
-rose_before : (a b c : ℕ) → a ≤ b → Rose b c → Rose a c
+pub rose_before : (a b c : ℕ) → a ≤ b → Rose b c → Rose a c
 rose_before a b c le rose = omega (arith, le, rose)
 
 pub fault_before : (files after : Files) (before between now : Devices) (number : ℕ) → OnlyAsks files before between after → HasFileFault after number between now → HasFileFault files number before now

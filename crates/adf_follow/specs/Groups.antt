@@ -187,6 +187,21 @@ LeavesUndone group files was now pending after = ((after ≡ files) × (pending 
 
 -- ---- a group
 
+-- all files are as they were committed but for that of a group
+abbrev pub StandBut : Option ℕ → Files → Files → Type 0
+StandBut None files kept = files ≡ kept
+StandBut (Some number) files kept = with_slot files number (slot_at kept number) ≡ kept
+
+-- what waits, waits in the file of a group; where there is none, nothing waits
+pub record WaitsIn (group : Option ℕ) (files : Files) (devices : Devices) (pending : Pending) : Type 0 where
+  pub others : StandBut group files pending.kept
+  pub rest : (n : ℕ) → Some n ≢ group → pending.work n ≡ at_rest (device_at devices n)
+
+-- the node of a serial that was drawn in a file
+abbrev pub made_in : ℕ → Option ℕ → List NodeId
+made_in file None = []
+made_in file (Some serial) = record { file = file; serial = serial } ∷ []
+
 -- an open file of a group: as it was before the first edit, and what the edits made of it
 pub record HasCome (files : Files) (before : Devices) (group : Group) (number : ℕ) (opened : Open) (work : FileWork) : Type 0 where
   pub was : Open

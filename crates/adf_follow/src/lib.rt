@@ -3,6 +3,7 @@
 #![tactic(auto)]
 
 mod asks;
+mod edit_groups;
 mod edited;
 mod edits;
 pub mod file_groups;
@@ -13,6 +14,7 @@ pub mod runs;
 mod walks;
 
 pub use asks::ask;
+pub use edit_groups::edit_group;
 pub use edited::EditedFiles;
 pub use edits::edit_one;
 pub use lookups::{AskedFiles, OpenFiles};
