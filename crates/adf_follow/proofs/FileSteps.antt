@@ -41,6 +41,19 @@ pub laid_many : (opened : Open) (device : Device) (held : Option (List ℕ)) →
 laid_many opened device None some laid = absurd (not_true some)
 laid_many opened device (Some image) some laid = sym (length-map device.placement.parts is_some) ∙ ap (λ (bs : List Bool). length bs) laid.same_nodes ∙ length-map opened.tree.nodes is_some
 
+-- the file that a group names is the one in which its edits stand
+pub own_first : (number : ℕ) (es : List Edit) → AllByRecursion (StandsIn number) es → IfSome (own_file es) (λ own. number ≡ own)
+own_first number [] all = tt
+own_first number (Delete n ∷ es) all = sym all.0.0
+own_first number (Rename n wanted ∷ es) all = sym all.0.0
+own_first number (Move n to ∷ es) all = sym all.0.0
+own_first number (Create n wanted label ∷ es) all = tt
+own_first number (SetLabel n label ∷ es) all = tt
+own_first number (SetDims n shape ∷ es) all = tt
+own_first number (PutAll n given ∷ es) all = tt
+own_first number (PutPart n selection given ∷ es) all = tt
+own_first number (Link n wanted file path ∷ es) all = tt
+
 module _ (files : Files) (before now : Devices) (edits : List Edit) (t : EditsTold files before edits) (tree : IsTree t.opened.tree) (laid : IsLaidOutAt (Live t.opened) (device_at before t.number))
     (others : OthersOnlyRead (Some t.number) before now) (others_placed : OthersStayPlaced (Some t.number) before now) where
   abbrev number : ℕ
@@ -122,21 +135,9 @@ module _ (files : Files) (before now : Devices) (edits : List Edit) (t : EditsTo
   live_last : (es : List Edit) (work : Work) (d : DoneAmong number 0 (group_of files) opened es work) → open_at d.last.files number ≡ Some (record opened { tree = work.tree })
   live_last es work d = ap (λ (f : Files). open_at f number) d.left ∙ opened_now files number opened (record opened { tree = work.tree }) t.live
 
-  own_first : (es : List Edit) → AllByRecursion (StandsIn number) es → IfSome (own_file es) (λ own. number ≡ own)
-  own_first [] all = tt
-  own_first (Delete n ∷ es) all = sym all.0.0
-  own_first (Rename n wanted ∷ es) all = sym all.0.0
-  own_first (Move n to ∷ es) all = sym all.0.0
-  own_first (Create n wanted label ∷ es) all = tt
-  own_first (SetLabel n label ∷ es) all = tt
-  own_first (SetDims n shape ∷ es) all = tt
-  own_first (PutAll n given ∷ es) all = tt
-  own_first (PutPart n selection given ∷ es) all = tt
-  own_first (Link n wanted file path ∷ es) all = tt
-
   -- the file may be edited
   may : opened.writable ≡ true → MayEdit files edits number
-  may writable = (ap standing_of (live_slot (slot_at files number) opened t.live) ∙ ap (λ (b : Bool). if b then Standing.Editing else Standing.Reading) writable, own_first edits t.stands)
+  may writable = (ap standing_of (live_slot (slot_at files number) opened t.live) ∙ ap (λ (b : Bool). if b then Standing.Editing else Standing.Reading) writable, own_first number edits t.stands)
 
   may_after : (work : Work) (d : DoneAmong number 0 (group_of files) opened edits work) → edits ≢ [] → MayEdit files edits number
   may_after work d some = may (elim d.may [ inl none ↦ absurd (some none) | inr writable ↦ writable ])

@@ -19,3 +19,4 @@ pub mod Standings
 pub mod Going
 pub mod GoingTold
 pub mod GoingMakes
+pub mod FileAnyway

@@ -49,6 +49,33 @@ stands_by Told By gone raw saved live broken (Live opened) = by_mode opened.writ
     by_mode false = (live opened).0
 stands_by Told By gone raw saved live broken Slot.Broken = broken
 
+gone_is : (slot : Slot) → is_gone slot ≡ gone_by (standing_of slot)
+gone_is = stands_by is_gone gone_by refl refl (λ tree. refl) (λ opened. (refl, refl)) refl
+
+open_is : (slot : Slot) → is_open slot ≡ open_by (standing_of slot)
+open_is = stands_by is_open open_by refl refl (λ tree. refl) (λ opened. (refl, refl)) refl
+
+broken_is : (slot : Slot) → is_broken slot ≡ broken_by (standing_of slot)
+broken_is = stands_by is_broken broken_by refl refl (λ tree. refl) (λ opened. (refl, refl)) refl
+
+pub gone_alike : (one two : Slot) → standing_of one ≡ standing_of two → is_gone one ≡ is_gone two
+gone_alike one two same = gone_is one ∙ ap gone_by same ∙ sym (gone_is two)
+
+-- a file that is open stands for reading or for editing, or failed
+pub stands_open : (P : Standing → Type 0) (slot : Slot) → is_open slot ≡ true → (standing_of slot ≡ Reading → is_broken slot ≡ false → P Reading) → (standing_of slot ≡ Editing → is_broken slot ≡ false → P Editing) → (standing_of slot ≡ Failed → is_broken slot ≡ true → P Failed) → P (standing_of slot)
+stands_open P slot is_there reading editing failed = by_standing (standing_of slot) refl
+  where
+    by_standing : (standing : Standing) → standing_of slot ≡ standing → P standing
+    by_standing Reading e = reading e (broken_is slot ∙ ap broken_by e)
+    by_standing Editing e = editing e (broken_is slot ∙ ap broken_by e)
+    by_standing Failed e = failed e (broken_is slot ∙ ap broken_by e)
+    by_standing Absent e = absurd (not_true (sym (open_is slot ∙ ap open_by e) ∙ is_there))
+    by_standing Closed e = absurd (not_true (sym (open_is slot ∙ ap open_by e) ∙ is_there))
+
+-- and is there
+pub open_there : (slot : Slot) → is_open slot ≡ true → is_gone slot ≡ false
+open_there slot is_there = gone_is slot ∙ stands_open (λ standing. gone_by standing ≡ false) slot is_there (λ e whole. refl) (λ e whole. refl) (λ e broken. refl)
+
 module _ (files other : Files) (same : standings files ≡ standings other) where
   pub same_standing : (number : ℕ) → standing_of (slot_at files number) ≡ standing_of (slot_at other number)
   same_standing number = standing_at files number ∙ ap (λ (s : List Standing). unwrap_or (slice_get s number) Absent) same ∙ sym (standing_at other number)
@@ -57,13 +84,13 @@ module _ (files other : Files) (same : standings files ≡ standings other) wher
   told_alike Told By is number = is (slot_at files number) ∙ ap By (same_standing number) ∙ sym (is (slot_at other number))
 
   pub same_gone : (number : ℕ) → is_gone (slot_at files number) ≡ is_gone (slot_at other number)
-  same_gone = told_alike is_gone gone_by (stands_by is_gone gone_by refl refl (λ tree. refl) (λ opened. (refl, refl)) refl)
+  same_gone = told_alike is_gone gone_by gone_is
 
   pub same_open : (number : ℕ) → is_open (slot_at files number) ≡ is_open (slot_at other number)
-  same_open = told_alike is_open open_by (stands_by is_open open_by refl refl (λ tree. refl) (λ opened. (refl, refl)) refl)
+  same_open = told_alike is_open open_by open_is
 
   pub same_broken : (number : ℕ) → is_broken (slot_at files number) ≡ is_broken (slot_at other number)
-  same_broken = told_alike is_broken broken_by (stands_by is_broken broken_by refl refl (λ tree. refl) (λ opened. (refl, refl)) refl)
+  same_broken = told_alike is_broken broken_by broken_is
 
   -- ---- the tests of the files of nodes
 

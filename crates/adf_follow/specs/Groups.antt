@@ -1,11 +1,13 @@
 -- A group of edits under way: what waits in open files, and what one edit more makes of it.
-use Rattle.std.specs.Prelude.{◌≡◌, ◌≢◌, ◌⊎◌, ℕ, ◌+◌, ◌≤◌, IfSome, IsTrue, is_some, Err, false, IsSome, List, [], ◌∷◌, ◌++◌, take, map, Option, Some, None, Result, Ok}
+use Rattle.std.specs.Prelude.{◌≡◌, ◌≢◌, ◌⊎◌, ℕ, ◌+◌, ◌≤◌, IfSome, IsTrue, is_some, Err, false, IsSome, List, [], ◌∷◌, ◌++◌, take, slice_get, map, Option, Some, None, Result, Ok}
 use Rattle.std.specs.List.{AllByRecursion}
 use Rattle.adf_format.specs.Tree.{Tree}
 use Rattle.adf_format.specs.Placement.{Placement}
+use Rattle.adf_format.specs.RuleNumbers.{IsRule}
 use Rattle.adf_format.specs.HeapRule.{place_edit}
 use Rattle.adf_model.specs.declared.error.AdfError.{AdfError}
-use Rattle.adf_model.specs.declared.error.AdfError.TheVariants.{Memory, ReadFault, LinkMissing, Full}
+use Rattle.adf_model.specs.declared.error.AdfError.TheVariants.{Memory, ReadFault, LinkMissing, Layout, Full}
+use Rattle.adf_model.specs.declared.error.EditError.{EditError}
 use Rattle.adf_model.specs.declared.tree.Edit.{Edit}
 use Rattle.adf_model.specs.declared.tree.NodeId.{NodeId}
 use Rattle.adf_model.specs.Tests.{and_then, first_refusal}
@@ -171,6 +173,16 @@ pub record IsRefusedAnyway (files : Files) (before now : Devices) (edit : Edit) 
   pub entry : EntersFiles {A = Unit {0}} files (named_nodes edit) (is_some (followed edit)) (Err error)
   pub cause : HasCauseOf files before now error
   pub kind : IsTrue (may_refuse_edit edit error)
+
+-- what bytes that are no layout break is a rule
+abbrev pub NamesRule : AdfError → Type 0
+NamesRule (Layout rule place) = IsRule rule
+NamesRule error = Unit {0}
+
+-- the refusal of a group of one file names a rule, and is of the kind of its edit
+pub record IsOfKind (edits : List Edit) (refusal : EditError) : Type 0 where
+  pub rule : NamesRule refusal.error
+  pub kind : (edit : Edit) → slice_get edits refusal.at ≡ Some edit → IsTrue (may_refuse_edit edit refusal.error)
 
 -- what waited in the file of the edit is dropped
 pub record IsUndone (group : Option ℕ) (files : Files) (was : Pending) (now : Devices) (pending : Pending) (after : Files) : Type 0 where
