@@ -5,3 +5,4 @@ pub mod CopyLaws
 pub mod AppendLaws
 pub mod SourceLaws
 pub mod EntryLaws
+pub mod PayloadLaws

@@ -3,3 +3,4 @@ pub mod Places
 pub mod Families
 pub mod Copies
 pub mod Sources
+pub mod Payloads

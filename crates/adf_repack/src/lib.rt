@@ -7,6 +7,7 @@
 mod copies;
 mod families;
 mod headers;
+mod payloads;
 mod places;
 mod puts;
 mod reads;
@@ -16,6 +17,7 @@ mod writer;
 pub use copies::{copy_entries, copy_range};
 pub use families::{Families, families_of};
 pub use headers::{copied_is_packed, dimensions_within, file_header, no_lists, packed_header};
+pub use payloads::{Payload, read_chunk, read_payload};
 pub use places::{NodeShape, PackedPlaces, check_length, length_is_packed, packed_places};
 pub use puts::{
     put, put_chunk_end, put_chunk_head, put_entry, put_head, put_header, put_table_end,

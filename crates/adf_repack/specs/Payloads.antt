@@ -1,0 +1,51 @@
+-- The data of a node as its chunks hold them, read by its header.
+use Rattle.std.specs.Prelude.{◌≡◌, ◌≢◌, ◌⊎◌, ℕ, ◌+◌, ◌-◌, ◌*◌, ◌^◌, ◌<◌, ◌==◌, false, cond, List, Option}
+use Rattle.std.specs.List.{flat_map}
+use Rattle.adf_format.specs.declared.fields.TheConstants.{HEAD_POINTER, CHUNK_START}
+use Rattle.adf_format.specs.Pointer.{is_place, place_of}
+use Rattle.adf_format.specs.RecordFields.{field_in}
+use Rattle.adf_format.specs.FirstFault.{count_up}
+use Rattle.adf_records.specs.declared.NodeHeader.{NodeHeader}
+use Rattle.cg_io.specs.Device.{bytes_at}
+use Rattle.layout_lint.specs.Nodes.{chunk_of}
+use Rattle.node_reads.specs.Reads.{ReadAt, Breaks}
+use Rattle.node_reads.specs.Entries.{chunk_head_rows}
+
+-- ---- one chunk
+
+-- where the i-th entry of its chunk table stands
+abbrev pub entry_at : NodeHeader → ℕ → ℕ
+entry_at h i = chunk_of h + 16 + 24 * i
+
+-- where its i-th chunk stands: a single one is named by the header itself
+abbrev pub chunk_at : List ℕ → NodeHeader → ℕ → ℕ
+chunk_at image h i = cond (h.chunks == 1) (chunk_of h) (place_of (field_in (bytes_at image (entry_at h i) 24) CHUNK_START))
+
+-- how much a chunk holds, by its own head
+abbrev pub payload_length : List ℕ → ℕ → ℕ
+payload_length image c = place_of (field_in (bytes_at image c 16) HEAD_POINTER) - c - 16
+
+abbrev pub payload_at : List ℕ → ℕ → List ℕ
+payload_at image c = bytes_at image (c + 16) (payload_length image c)
+
+-- ---- all of them
+
+-- what the first of its chunks hold, one behind the other
+abbrev pub payloads_until : List ℕ → NodeHeader → ℕ → List ℕ
+payloads_until image h n = flat_map (λ i. payload_at image (chunk_at image h i)) (count_up n)
+
+abbrev pub payloads_of : List ℕ → NodeHeader → List ℕ
+payloads_of image h = payloads_until image h h.chunks
+
+-- ---- broken rules
+
+-- rule 25 of an entry: it ends by the last place, and names a chunk
+pub record BreaksEntry (held : Option (List ℕ)) (h : NodeHeader) (i rule at : ℕ) : Type 0 where
+  pub is : rule ≡ 25
+  pub listed : h.chunks ≢ 1
+  pub place : at ≡ entry_at h i
+  pub why : (2 ^ 44 < entry_at h i + 24) ⊎ ReadAt held (entry_at h i) 24 (λ bytes. is_place (field_in bytes CHUNK_START) ≡ false)
+
+-- rule 26 of a chunk, as far as its head tells
+abbrev pub BreaksHead : Option (List ℕ) → ℕ → ℕ → ℕ → Type 0
+BreaksHead held c rule at = ((rule ≡ 26) × (at ≡ c) × (2 ^ 44 < c + 16)) ⊎ Breaks held c 16 (chunk_head_rows c) rule at
