@@ -1,9 +1,9 @@
 -- The data of a node as its chunks hold them, read by its header.
-use Rattle.std.specs.Prelude.{◌≡◌, ◌≢◌, ◌⊎◌, ℕ, ◌+◌, ◌-◌, ◌*◌, ◌^◌, ◌<◌, ◌==◌, false, cond, List, Option}
+use Rattle.std.specs.Prelude.{◌≡◌, ◌≢◌, ◌⊎◌, ℕ, ◌+◌, ◌-◌, ◌*◌, ◌^◌, ◌<◌, ◌==◌, false, cond, List, length, Option, IfSome}
 use Rattle.std.specs.List.{flat_map}
 use Rattle.adf_format.specs.declared.fields.TheConstants.{HEAD_POINTER, CHUNK_START}
 use Rattle.adf_format.specs.Pointer.{is_place, place_of}
-use Rattle.adf_format.specs.RecordFields.{field_in}
+use Rattle.adf_format.specs.RecordFields.{field_in, at_place, node_chunks}
 use Rattle.adf_format.specs.FirstFault.{count_up}
 use Rattle.adf_records.specs.declared.NodeHeader.{NodeHeader}
 use Rattle.cg_io.specs.Device.{bytes_at}
@@ -49,3 +49,31 @@ pub record BreaksEntry (held : Option (List ℕ)) (h : NodeHeader) (i rule at : 
 -- rule 26 of a chunk, as far as its head tells
 abbrev pub BreaksHead : Option (List ℕ) → ℕ → ℕ → ℕ → Type 0
 BreaksHead held c rule at = ((rule ≡ 26) × (at ≡ c) × (2 ^ 44 < c + 16)) ⊎ Breaks held c 16 (chunk_head_rows c) rule at
+
+-- rule 27 of a node whose header stands at a place: its chunks hold less than so many bytes
+pub record IsShort (held : Option (List ℕ)) (h : NodeHeader) (place size rule at : ℕ) : Type 0 where
+  pub is : rule ≡ 27
+  pub stands : at ≡ (at_place place (node_chunks h.wide)).offset
+  pub short : IfSome held (λ image. length (payloads_of image h) < size)
+
+-- one of its chunks
+pub record IsChunkOf (held : Option (List ℕ)) (h : NodeHeader) (c : ℕ) : Type 0 where
+  pub number : ℕ
+  pub within : number < h.chunks
+  pub stands : IfSome held (λ image. c ≡ chunk_at image h number)
+
+-- rule 25 of an entry of its chunk table
+pub record BreaksTable (held : Option (List ℕ)) (h : NodeHeader) (rule at : ℕ) : Type 0 where
+  pub number : ℕ
+  pub within : number < h.chunks
+  pub breaks : BreaksEntry held h number rule at
+
+-- rule 26 of one of its chunks
+pub record BreaksChunk (held : Option (List ℕ)) (h : NodeHeader) (rule at : ℕ) : Type 0 where
+  pub chunk : ℕ
+  pub one : IsChunkOf held h chunk
+  pub breaks : BreaksHead held chunk rule at
+
+-- what of the chunks of a node breaks a rule
+abbrev pub BreaksData : Option (List ℕ) → NodeHeader → ℕ → ℕ → ℕ → ℕ → Type 0
+BreaksData held h place size rule at = BreaksTable held h rule at ⊎ (BreaksChunk held h rule at ⊎ IsShort held h place size rule at)

@@ -5,6 +5,7 @@
 #![tactic(auto)]
 
 mod copies;
+mod data;
 mod families;
 mod headers;
 mod payloads;
@@ -15,6 +16,7 @@ mod source;
 mod writer;
 
 pub use copies::{copy_entries, copy_range};
+pub use data::copy_payloads;
 pub use families::{Families, families_of};
 pub use headers::{copied_is_packed, dimensions_within, file_header, no_lists, packed_header};
 pub use payloads::{Payload, read_chunk, read_payload};

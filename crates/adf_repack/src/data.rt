@@ -1,0 +1,75 @@
+//! The data of a node, appended in one chunk.
+
+ghost use Rattle.std.specs.Prelude.{◌≡◌, ◌+◌, ◌-◌, ◌^◌, ◌≤◌, length, max, take, replicate, ◌++◌, IfSome, OnOk};
+ghost use Rattle.adf_format.specs.Parts.{node_length};
+ghost use Rattle.adf_format.specs.RecordFields.{node_chunks};
+ghost use Rattle.adf_format.specs.Pointer.{To};
+ghost use Rattle.adf_format.specs.Records.{Data, head_text, end_tag};
+ghost use Rattle.adf_records.specs.View.{HasOffsets};
+ghost use Rattle.adf_repack.specs.Writers.{IsWriter, count_in};
+ghost use Rattle.adf_repack.specs.Sources.{IsReady};
+ghost use Rattle.adf_repack.specs.Copies.{Copies};
+ghost use Rattle.adf_repack.specs.Payloads.{payloads_of, BreaksData};
+
+use crate::copies::copy_range;
+use crate::payloads::{read_chunk, read_payload};
+use crate::puts::{put_chunk_end, put_chunk_head};
+use crate::source::Page;
+use crate::writer::BlockWriter;
+use adf_model::AdfError;
+use adf_records::NodeHeader;
+use cg_io::{Blocks, Device};
+
+/// Appends the first bytes that the chunks of a node hold, so many, chunk by chunk. The header of the node stands at a place.
+pub fn copy_payloads<B: Blocks, E: Device>(
+    blocks: &mut B,
+    page: &mut Page,
+    writer: &mut BlockWriter<E>,
+    header: &NodeHeader,
+    place: u64,
+    size: u64,
+) -> Result<(), AdfError>
+    requires ready { IsReady (B.is_sound blocks.old) (B.state blocks.old).held page.old }
+    requires sound { IsWriter E.state writer.old }
+    requires offsets { HasOffsets header.now }
+    requires near { place + node_length header.now.wide ≤ 2 ^ 44 }
+    requires within { count_in writer.old + size ≤ 2 ^ 44 }
+    ensures copies { Copies B.is_sound B.state E.state
+        (BreaksData (B.state blocks.old).held header.now place size) size
+        (λ image. take size (payloads_of image header.now))
+        blocks.old blocks.new page.new writer.old writer.new result }
+    ensures enough { OnOk result (IfSome (B.state blocks.old).held
+        (λ image. size ≤ length (payloads_of image header.now))) }
+{
+    let mut left = size;
+    for number in 0..header.chunks {
+        let chunk = match read_chunk(blocks, page, header, number) {
+            Ok(chunk) => chunk,
+            Err(error) => return Err(error),
+        };
+        let payload = match read_payload(blocks, page, chunk) {
+            Ok(payload) => payload,
+            Err(error) => return Err(error),
+        };
+        let count = left.min(payload.length);
+        match copy_range(blocks, page, writer, payload.place, count) {
+            Ok(()) => {}
+            Err(error) => return Err(error),
+        }
+        left -= count;
+    }
+    if left > 0 {
+        return Err(AdfError::Layout {
+            rule: 27,
+            place: place + chunk_count_field(header),
+        });
+    }
+    Ok(())
+}
+
+// Where the number of chunks stands in a header.
+fn chunk_count_field(header: &NodeHeader) -> u64
+    ensures { result ≡ (node_chunks header.now.wide).offset }
+{
+    if header.wide { 322 } else { 226 }
+}
