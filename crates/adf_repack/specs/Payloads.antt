@@ -1,8 +1,9 @@
 -- The data of a node as its chunks hold them, read by its header.
-use Rattle.std.specs.Prelude.{◌≡◌, ◌≢◌, ◌⊎◌, ℕ, ◌+◌, ◌-◌, ◌*◌, ◌^◌, ◌<◌, ◌==◌, false, cond, List, length, Option, IfSome}
+use Rattle.std.specs.Prelude.{◌≡◌, ◌≢◌, ◌⊎◌, ℕ, ◌+◌, ◌-◌, ◌*◌, ◌^◌, ◌<◌, ◌==◌, false, cond, max, List, ◌++◌, length, take, replicate, Option, IfSome}
 use Rattle.std.specs.List.{flat_map}
 use Rattle.adf_format.specs.declared.fields.TheConstants.{HEAD_POINTER, CHUNK_START}
-use Rattle.adf_format.specs.Pointer.{is_place, place_of}
+use Rattle.adf_format.specs.Pointer.{is_place, place_of, To}
+use Rattle.adf_format.specs.Records.{Data, head_text, end_tag}
 use Rattle.adf_format.specs.RecordFields.{field_in, at_place, node_chunks}
 use Rattle.adf_format.specs.FirstFault.{count_up}
 use Rattle.adf_records.specs.declared.NodeHeader.{NodeHeader}
@@ -36,6 +37,11 @@ payloads_until image h n = flat_map (λ i. payload_at image (chunk_at image h i)
 
 abbrev pub payloads_of : List ℕ → NodeHeader → List ℕ
 payloads_of image h = payloads_until image h h.chunks
+
+-- the chunk of a copy: data of so many bytes, and zeros behind them up to 12
+abbrev pub copied_chunk : List ℕ → NodeHeader → ℕ → ℕ → List ℕ
+copied_chunk image h size place =
+    head_text Data (To (place + 16 + max 12 size)) ++ (take size (payloads_of image h) ++ (replicate (12 - size) 0 ++ end_tag Data))
 
 -- ---- broken rules
 

@@ -9,7 +9,7 @@ ghost use Rattle.adf_records.specs.View.{HasOffsets};
 ghost use Rattle.adf_repack.specs.Writers.{IsWriter, count_in};
 ghost use Rattle.adf_repack.specs.Sources.{IsReady};
 ghost use Rattle.adf_repack.specs.Copies.{Copies};
-ghost use Rattle.adf_repack.specs.Payloads.{payloads_of, BreaksData};
+ghost use Rattle.adf_repack.specs.Payloads.{payloads_of, copied_chunk, BreaksData};
 
 use crate::copies::copy_range;
 use crate::payloads::{read_chunk, read_payload};
@@ -20,8 +20,42 @@ use adf_model::AdfError;
 use adf_records::NodeHeader;
 use cg_io::{Blocks, Device};
 
-/// Appends the first bytes that the chunks of a node hold, so many, chunk by chunk. The header of the node stands at a place.
-pub fn copy_payloads<B: Blocks, E: Device>(
+/// Appends the data of a node, so many bytes, in a chunk that stands at a place. The header of the node stands at another one.
+pub fn copy_data<B: Blocks, E: Device>(
+    blocks: &mut B,
+    page: &mut Page,
+    writer: &mut BlockWriter<E>,
+    header: &NodeHeader,
+    place: u64,
+    size: u64,
+    chunk: u64,
+) -> Result<(), AdfError>
+    requires ready { IsReady (B.is_sound blocks.old) (B.state blocks.old).held page.old }
+    requires sound { IsWriter E.state writer.old }
+    requires offsets { HasOffsets header.now }
+    requires near { place + node_length header.now.wide ≤ 2 ^ 44 }
+    requires chunk { chunk + 20 + max 12 size ≤ 2 ^ 44 }
+    requires within { count_in writer.old + 20 + max 12 size ≤ 2 ^ 44 }
+    ensures copies { Copies B.is_sound B.state E.state
+        (BreaksData (B.state blocks.old).held header.now place size) (20 + max 12 size)
+        (λ image. copied_chunk image header.now size chunk)
+        blocks.old blocks.new page.new writer.old writer.new result }
+    ensures enough { OnOk result (IfSome (B.state blocks.old).held
+        (λ image. size ≤ length (payloads_of image header.now))) }
+{
+    match put_chunk_head(writer, chunk, size) {
+        Ok(()) => {}
+        Err(error) => return Err(error),
+    }
+    match copy_payloads(blocks, page, writer, header, place, size) {
+        Ok(()) => {}
+        Err(error) => return Err(error),
+    }
+    put_chunk_end(writer, size)
+}
+
+// Appends the first bytes that the chunks of a node hold, so many, chunk by chunk. The header of the node stands at a place.
+fn copy_payloads<B: Blocks, E: Device>(
     blocks: &mut B,
     page: &mut Page,
     writer: &mut BlockWriter<E>,

@@ -16,7 +16,7 @@ mod source;
 mod writer;
 
 pub use copies::{copy_entries, copy_range};
-pub use data::copy_payloads;
+pub use data::copy_data;
 pub use families::{Families, families_of};
 pub use headers::{copied_is_packed, dimensions_within, file_header, no_lists, packed_header};
 pub use payloads::{Payload, read_chunk, read_payload};

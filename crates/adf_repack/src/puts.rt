@@ -132,7 +132,7 @@ pub fn put_chunk_head<E: Device>(
 /// Appends what stands behind data of so many bytes: zeros up to 12 bytes, and the end tag of the chunk.
 pub fn put_chunk_end<E: Device>(writer: &mut BlockWriter<E>, size: u64) -> Result<(), AdfError>
     requires sound { IsWriter E.state writer.old }
-    requires within { count_in writer.old + 16 ≤ 2 ^ 44 }
+    requires within { count_in writer.old + (12 - size) + 4 ≤ 2 ^ 44 }
     ensures { Appends E.state (replicate (12 - size) 0 ++ end_tag Data) writer.old writer.new
         result }
 {
