@@ -6,10 +6,9 @@ use Rattle.adf_format.specs.Fields.{field}
 use Rattle.adf_format.specs.Pointer.{place_of}
 use Rattle.adf_format.specs.declared.fields.TheConstants.{CHUNK_START}
 use Rattle.adf_format.specs.RecordFields.{field_in}
-use Rattle.adf_records.specs.declared.NodeHeader.{NodeHeader}
+use Rattle.adf_format.specs.Records.{NodeRecord}
 use Rattle.cg_io.specs.Device.{bytes_at, GivesAt}
-use Rattle.layout_lint.specs.Nodes.{chunk_of}
-use Rattle.adf_repack.specs.Payloads.{chunk_at, entry_at, payload_at, payload_length, payloads_until, BreaksHead, BreaksData}
+use Rattle.adf_repack.specs.Payloads.{chunk_of, chunk_at, entry_at, payload_at, payload_length, payloads_until, BreaksHead, BreaksData}
 use Rattle.adf_model.specs.Counts.{OnlyReads}
 use Rattle.adf_model.specs.declared.error.AdfError.{AdfError}
 use Rattle.adf_repack.specs.Sources.{IsUnread, IsBroken}
@@ -28,7 +27,7 @@ not_one : (n : ℕ) → n ≢ 1 → n == 1 ≡ false
 not_one n differs = ne_eqb n 1 differs
 
 -- a chunk that a table names
-pub chunk_listed : (held : Option (List ℕ)) (h : NodeHeader) (i at chunk : ℕ) (entry : List ℕ) → h.chunks ≢ 1 → at ≡ entry_at h i → GivesAt held at entry → length entry ≡ 24
+pub chunk_listed : (held : Option (List ℕ)) (h : NodeRecord) (i at chunk : ℕ) (entry : List ℕ) → h.chunks ≢ 1 → at ≡ entry_at h i → GivesAt held at entry → length entry ≡ 24
     → place_of (field entry 0 12) ≡ chunk → IfSome held (λ image. chunk ≡ chunk_at image h i)
 chunk_listed None h i at chunk entry several is given long names = tt
 chunk_listed (Some image) h i at chunk entry several is given long names =
@@ -43,7 +42,7 @@ range_more a zero = ap (λ k. k ∷ []) (omega arith)
 range_more a (suc n) = ap (λ l. a ∷ l) (range_more (a + 1) n ∙ ap (λ k. range_with_len (a + 1) n ++ k ∷ []) (omega arith))
 
 -- and one more
-until_more : (image : List ℕ) (h : NodeHeader) (n : ℕ) → payloads_until image h (n + 1) ≡ payloads_until image h n ++ payload_at image (chunk_at image h n)
+until_more : (image : List ℕ) (h : NodeRecord) (n : ℕ) → payloads_until image h (n + 1) ≡ payloads_until image h n ++ payload_at image (chunk_at image h n)
 until_more image h n =
     let f : ℕ → List ℕ = λ i. payload_at image (chunk_at image h i) in
     let next : n + 1 ≡ suc n = omega arith in
@@ -74,7 +73,7 @@ take_across size xs ys = elim (cases_lt (length xs) size) [
       take-append-le size xs ys all ∙ sym (append-nil (take size xs)) ∙ ap (λ n. take size xs ++ take n ys) (sym none)
 ]
 
-module _ (image : List ℕ) (h : NodeHeader) (n c len left size count : ℕ) (at : c ≡ chunk_at image h n) (long : len ≡ payload_length image c) (some : count ≡ min left len)
+module _ (image : List ℕ) (h : NodeRecord) (n c len left size count : ℕ) (at : c ≡ chunk_at image h n) (long : len ≡ payload_length image c) (some : count ≡ min left len)
     (rest : left ≡ size - length (payloads_until image h n)) where
   -- one chunk more is appended
   pub payload_step : (first middle last : Option (List ℕ)) → middle ≡ with_more first (take size (payloads_until image h n)) → last ≡ with_more middle (bytes_at image (c + 16) count)
@@ -108,9 +107,9 @@ pub unread_then : (s t u : DeviceState) (e : AdfError) → OnlyReads s t → IsU
 unread_then s t u e first h = record { is = h.is; rose = omega (arith, first.faults, h.rose) }
 
 -- a chunk whose head breaks a rule, and an entry
-pub broken_chunk : (held again : Option (List ℕ)) (h : NodeHeader) (i c place size : ℕ) (e : AdfError) → again ≡ held → i < h.chunks → IfSome again (λ image. c ≡ chunk_at image h i)
-    → IsBroken (BreaksHead again c) e → IsBroken (BreaksData held h place size) e
-broken_chunk held again h i c place size e same within stands b = record {
+pub broken_chunk : (held again : Option (List ℕ)) (wide : Bool) (h : NodeRecord) (i c place size : ℕ) (e : AdfError) → again ≡ held → i < h.chunks → IfSome again (λ image. c ≡ chunk_at image h i)
+    → IsBroken (BreaksHead again c) e → IsBroken (BreaksData held wide h place size) e
+broken_chunk held again wide h i c place size e same within stands b = record {
   rule = b.rule;
   place = b.place;
   is = b.is;

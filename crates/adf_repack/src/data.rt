@@ -5,7 +5,7 @@ ghost use Rattle.adf_format.specs.Parts.{node_length};
 ghost use Rattle.adf_format.specs.RecordFields.{node_chunks};
 ghost use Rattle.adf_format.specs.Pointer.{To};
 ghost use Rattle.adf_format.specs.Records.{Data, head_text, end_tag};
-ghost use Rattle.adf_records.specs.View.{HasOffsets};
+ghost use Rattle.adf_records.specs.View.{record_of, HasOffsets};
 ghost use Rattle.adf_repack.specs.Writers.{IsWriter, count_in};
 ghost use Rattle.adf_repack.specs.Sources.{IsReady};
 ghost use Rattle.adf_repack.specs.Copies.{Copies};
@@ -37,11 +37,11 @@ pub fn copy_data<B: Blocks, E: Device>(
     requires chunk { chunk + 20 + max 12 size ≤ 2 ^ 44 }
     requires within { count_in writer.old + 20 + max 12 size ≤ 2 ^ 44 }
     ensures copies { Copies B.is_sound B.state E.state
-        (BreaksData (B.state blocks.old).held header.now place size) (20 + max 12 size)
-        (λ image. copied_chunk image header.now size chunk)
+        (BreaksData (B.state blocks.old).held header.now.wide (record_of header.now) place size) (20 + max 12 size)
+        (λ image. copied_chunk image (record_of header.now) size chunk)
         blocks.old blocks.new page.new writer.old writer.new result }
     ensures enough { OnOk result (IfSome (B.state blocks.old).held
-        (λ image. size ≤ length (payloads_of image header.now))) }
+        (λ image. size ≤ length (payloads_of image (record_of header.now)))) }
 {
     match put_chunk_head(writer, chunk, size) {
         Ok(()) => {}
@@ -69,11 +69,11 @@ fn copy_payloads<B: Blocks, E: Device>(
     requires near { place + node_length header.now.wide ≤ 2 ^ 44 }
     requires within { count_in writer.old + size ≤ 2 ^ 44 }
     ensures copies { Copies B.is_sound B.state E.state
-        (BreaksData (B.state blocks.old).held header.now place size) size
-        (λ image. take size (payloads_of image header.now))
+        (BreaksData (B.state blocks.old).held header.now.wide (record_of header.now) place size) size
+        (λ image. take size (payloads_of image (record_of header.now)))
         blocks.old blocks.new page.new writer.old writer.new result }
     ensures enough { OnOk result (IfSome (B.state blocks.old).held
-        (λ image. size ≤ length (payloads_of image header.now))) }
+        (λ image. size ≤ length (payloads_of image (record_of header.now)))) }
 {
     let mut left = size;
     for number in 0..header.chunks {

@@ -1,6 +1,6 @@
 //! The headers of a packed file and of its nodes.
 
-ghost use Rattle.std.specs.Prelude.{◌≡◌, ◌+◌, ◌^◌, ◌≤◌, ◌<◌, ℕ, map, take, replicate, get_or, ◌-◌, ◌++◌, cond, is_some};
+ghost use Rattle.std.specs.Prelude.{◌≡◌, ◌+◌, ◌^◌, ◌≤◌, ◌<◌, ℕ, map, take, replicate, get_or, ◌-◌, ◌++◌, cond, is_some, IsTrue};
 ghost use Rattle.adf_format.specs.Hex.{hex_text};
 ghost use Rattle.adf_format.specs.Parts.{node_length, dimension_digits};
 ghost use Rattle.adf_format.specs.Pointer.{Blank, To};
@@ -8,7 +8,7 @@ ghost use Rattle.adf_records.specs.View.{record_of, header_of, pointers_of, HasO
 ghost use Rattle.disk_ptr.specs.View.{view, HasOffset};
 ghost use Rattle.layout_lint.specs.Nodes.{numbers_of};
 ghost use Rattle.packed_laws.specs.PackedForm.{packed_header_of};
-ghost use Rattle.adf_repack.specs.Places.{table_room};
+ghost use Rattle.adf_repack.specs.Places.{room_of};
 ghost use Rattle.adf_repack.specs.Copies.{pointer_when, copied_record, CopiedIsPacked};
 
 use crate::places::{NodeShape, header_length, table_room};
@@ -76,7 +76,7 @@ pub fn packed_header(
         ++ replicate (12 - header.now.rank) 0 }
     requires fits { (i : ℕ) → i < 12 → get_or values.now i 0 < 16 ^ dimension_digits wide }
     requires few { shape.children ≤ 2 ^ 20 }
-    requires near { place + node_length wide + table_room shape.children < 2 ^ 44 }
+    requires near { place + room_of wide shape ≤ 2 ^ 44 }
     ensures says { record_of result ≡ copied_record wide header.now place shape }
     ensures offsets { HasOffsets result }
     ensures wide { result.wide ≡ wide }
@@ -113,7 +113,7 @@ pub(crate) fn pointer_to(place: u64) -> DiskPtr
 
 // The pointer to a place, or the blank one.
 fn pointer(there: bool, place: u64) -> DiskPtr
-    requires { place < 2 ^ 44 }
+    requires { IsTrue there → place < 2 ^ 44 }
     ensures says { view result ≡ pointer_when there place }
     ensures offset { HasOffset result }
 {

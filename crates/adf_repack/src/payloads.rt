@@ -4,10 +4,9 @@ ghost use Rattle.std.specs.Prelude.{◌≡◌, ◌⊎◌, ◌^◌, ◌+◌, ◌�
 ghost use Rattle.adf_format.specs.Fields.{field};
 ghost use Rattle.adf_format.specs.Pointer.{is_place, place_of};
 ghost use Rattle.adf_model.specs.Counts.{OnlyReads};
-ghost use Rattle.adf_records.specs.View.{HasOffsets};
-ghost use Rattle.layout_lint.specs.Nodes.{chunk_of};
+ghost use Rattle.adf_records.specs.View.{record_of, HasOffsets};
 ghost use Rattle.adf_repack.specs.Sources.{IsReady, IsUnread, IsBroken};
-ghost use Rattle.adf_repack.specs.Payloads.{chunk_at, payload_length, BreaksEntry, BreaksHead};
+ghost use Rattle.adf_repack.specs.Payloads.{chunk_of, chunk_at, payload_length, BreaksEntry, BreaksHead};
 
 use crate::source::{Page, bytes_at};
 use adf_chunks::{Part, begins};
@@ -43,7 +42,7 @@ fn place_in(bytes: &[u8], at: Field) -> Option<u64>
 // Where the chunk or the chunk table of a header stands; 0 where there is none.
 fn chunk_place(header: &NodeHeader) -> u64
     requires { HasOffsets header.now }
-    ensures place { result ≡ chunk_of header.now }
+    ensures place { result ≡ chunk_of (record_of header.now) }
     ensures near { result < 2 ^ 44 }
 {
     match header.chunk {
@@ -63,12 +62,12 @@ pub fn read_chunk<B: Blocks>(
     requires offsets { HasOffsets header.now }
     ensures ready { IsReady (B.is_sound blocks.new) (B.state blocks.new).held page.new }
     ensures told { IfOk result (λ c. IfSome (B.state blocks.old).held
-        (λ image. c ≡ chunk_at image header.now number)) }
+        (λ image. c ≡ chunk_at image (record_of header.now) number)) }
     ensures near { IfOk result (λ c. c < 2 ^ 44) }
     ensures reads { OnlyReads (B.state blocks.old) (B.state blocks.new) }
     ensures cause { IfErr result (λ e. IsUnread (B.state blocks.old).faults
         (B.state blocks.new).faults e
-        ⊎ IsBroken (BreaksEntry (B.state blocks.old).held header.now number) e) }
+        ⊎ IsBroken (BreaksEntry (B.state blocks.old).held (record_of header.now) number) e) }
 {
     let start = chunk_place(header);
     if header.chunks == 1 {

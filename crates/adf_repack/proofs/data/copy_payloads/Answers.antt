@@ -1,5 +1,6 @@
 use Rattle.std.proofs.Common.{◌≡◌, ◌∙◌, ◌<◌, ◌+◌, ap, refl, sym, Some, arith, subst, Option, IfSome, List, inl, inr, ℕ, length, take}
 use Rattle.cg_io.specs.Device.{bytes_at}
+use Rattle.adf_records.specs.View.{record_of}
 use Rattle.adf_repack.specs.Payloads.{payloads_until, payloads_of, payload_length, chunk_at, IsShort}
 use Rattle.adf_repack.specs.Writers.{appended_in, with_more}
 use Rattle.adf_repack.proofs.WriterLaws.{writes_then}
@@ -28,8 +29,8 @@ returns-in-Err-read_payload-clause-copies g c =
       lost = before.lost;
       cause = elim c.in-Err-read_payload.ensures.cause [
         | inl unread ↦ inl (unread_then (g.B.Blocks.state c.args.blocks.now) (g.B.Blocks.state c.read_chunk.new.blocks) (g.B.Blocks.state c.read_payload.new.blocks) c.in-Err-read_payload.error (reads_then _ _ _ before.reads read) unread)
-        | inr broken ↦ inr (inr (broken_chunk (g.B.Blocks.state c.args.blocks.now).held (g.B.Blocks.state c.read_chunk.new.blocks).held c.args.header.now c.loop-number.number c.in-Ok.chunk c.args.place c.args.size
-            c.in-Err-read_payload.error (read.held ∙ before.reads.held) (omega (arith, c.loop-number-test.true)) (chunk_again (g.B.Blocks.state c.loop-number.blocks).held (g.B.Blocks.state c.read_chunk.new.blocks).held (λ image. c.in-Ok.chunk ≡ chunk_at image c.args.header.now c.loop-number.number) read.held c.in-Ok.ensures.told) broken))
+        | inr broken ↦ inr (inr (broken_chunk (g.B.Blocks.state c.args.blocks.now).held (g.B.Blocks.state c.read_chunk.new.blocks).held c.args.header.now.wide (record_of c.args.header.now) c.loop-number.number c.in-Ok.chunk c.args.place c.args.size
+            c.in-Err-read_payload.error (read.held ∙ before.reads.held) (omega (arith, c.loop-number-test.true)) (chunk_again (g.B.Blocks.state c.loop-number.blocks).held (g.B.Blocks.state c.read_chunk.new.blocks).held (λ image. c.in-Ok.chunk ≡ chunk_at image (record_of c.args.header.now) c.loop-number.number) read.held c.in-Ok.ensures.told) broken))
       ];
     }
 
@@ -39,7 +40,7 @@ loop-number-preserved g c =
     let read = reads_then _ _ _ before.reads c.read_chunk.ensures.reads in
     let all = reads_then _ _ _ read c.read_payload.ensures.reads in
     let put = c.in-Ok-copy_range.ensures in
-    let h = c.args.header.now in
+    let h = record_of c.args.header.now in
     let n = c.loop-number.number in
     let at : (image : List ℕ) → (g.B.Blocks.state c.args.blocks.now).held ≡ Some image → c.in-Ok.chunk ≡ chunk_at image h n
     = λ image e. told_of (g.B.Blocks.state c.loop-number.blocks).held image (λ i. c.in-Ok.chunk ≡ chunk_at i h n) (before.reads.held ∙ e) c.in-Ok.ensures.told in
@@ -82,8 +83,8 @@ returns-then-left-gt0-clause-copies g c =
         so = inr (inr (record {
           is = refl;
           stands = ap (λ n. c.args.place + n) c.chunk_count_field.ensures;
-          short = some_from (g.B.Blocks.state c.args.blocks.now).held (λ image. length (payloads_of image c.args.header.now) < c.args.size)
-              (λ image e. let rest = before.rest image e in let all : length (payloads_until image c.args.header.now c.loop-number.number) ≡ length (payloads_of image c.args.header.now) = ap (λ n. length (payloads_until image c.args.header.now n)) end in
+          short = some_from (g.B.Blocks.state c.args.blocks.now).held (λ image. length (payloads_of image (record_of c.args.header.now)) < c.args.size)
+              (λ image e. let rest = before.rest image e in let all : length (payloads_until image (record_of c.args.header.now) c.loop-number.number) ≡ length (payloads_of image (record_of c.args.header.now)) = ap (λ n. length (payloads_until image (record_of c.args.header.now) n)) end in
               omega (arith, rest, all, c.if-left-gt0.true));
         }));
       }));
@@ -97,7 +98,7 @@ returns-clause-copies g c =
       ready = before.ready;
       reads = before.reads;
       sound = before.sound;
-      appended = λ image e. before.appended image e ∙ ap (λ n. with_more (appended_in g.E.Device.state c.args.writer.now) (take c.args.size (payloads_until image c.args.header.now n))) end;
+      appended = λ image e. before.appended image e ∙ ap (λ n. with_more (appended_in g.E.Device.state c.args.writer.now) (take c.args.size (payloads_until image (record_of c.args.header.now) n))) end;
       count = omega (arith, before.count, c.if-left-gt0.false);
       wrote = before.wrote;
       effect = before.effect;
