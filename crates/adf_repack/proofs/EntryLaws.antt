@@ -13,7 +13,11 @@ use Rattle.layout_lint.specs.declared.verdict.NodePlace.{NodePlace}
 use Rattle.adf_repack.specs.Writers.{with_more}
 use Rattle.adf_repack.proofs.WriterLaws.{more_then}
 use Rattle.adf_repack.specs.Families.{IsChain, children_of, is_under}
-use Rattle.adf_repack.specs.Copies.{position_in, copied_entry, copied_entries}
+use Rattle.adf_repack.specs.Copies.{position_in, copied_entry, copied_entries, BreaksNames}
+use Rattle.adf_repack.specs.Sources.{IsBroken, IsBeyond}
+use Rattle.adf_model.specs.declared.error.AdfError.{AdfError}
+use Rattle.std.specs.List.{Contains}
+use Rattle.std.proofs.lemmas.List.Elements.{Contains-get_or}
 
 -- ---- the list
 
@@ -42,6 +46,20 @@ module _ (nodes : List NodePlace) (number done end child : ℕ) (links counts : 
 
   pub inside : child < length nodes
   inside = let h = child_within nodes number done (omega (arith, one)) more in let e = here in omega (arith, h, e)
+
+  -- an entry that is broken is that of a child
+  pub broken_name : (table position : ℕ) (e : AdfError) → position ≡ position_in (slice_get nodes child) → IsBroken (IsBeyond (table + 16 + 44 * position)) e
+      → IsBroken (BreaksNames table nodes (children_of nodes number)) e
+  broken_name table position e at b = record {
+    rule = b.rule;
+    place = b.place;
+    is = b.is;
+    so = record {
+      child = child;
+      one = subst (λ (k : ℕ). Contains (children_of nodes number) k) (sym here) (Contains-get_or (children_of nodes number) done 0 more);
+      breaks = subst (λ (n : ℕ). IsBeyond (table + 16 + 44 * n) b.rule b.place) at b.so;
+    };
+  }
 
   -- and the link that leads on
   pub on : (v : ℕ) → v ≡ get_or links child 0 → IsChain links v (drop (done + 1) (children_of nodes number))

@@ -1,4 +1,5 @@
 -- What is written of a node, by its header as it was read, and what appending it does.
+use Rattle.std.specs.List.{Contains}
 use Rattle.std.specs.Prelude.{◌≡◌, ◌⊎◌, ℕ, ◌+◌, ◌*◌, ◌==◌, ◌≤◌, Bool, not, cond, List, length, take, is_some, map, slice_get, get_or, Option, None, Some, Result, OnOk, IfErr}
 use Rattle.adf_format.specs.Fields.{text_field}
 use Rattle.adf_format.specs.Pointer.{Pointer, Blank, To}
@@ -17,7 +18,7 @@ use Rattle.adf_repack.specs.declared.places.NodeShape.{NodeShape}
 use Rattle.adf_repack.specs.declared.writer.BlockWriter.{BlockWriter}
 use Rattle.adf_model.specs.Counts.{OnlyReads}
 use Rattle.adf_repack.specs.declared.source.Page.{Page}
-use Rattle.adf_repack.specs.Sources.{IsReady, IsUnread, IsBroken}
+use Rattle.adf_repack.specs.Sources.{IsReady, IsUnread, IsBroken, IsBeyond}
 use Rattle.adf_repack.specs.Places.{table_room, shape_of}
 use Rattle.adf_repack.specs.Writers.{IsWriter, appended_in, with_more, count_in, blocks_in, state_under, WritesBlocks, OnlyWrites}
 
@@ -105,3 +106,9 @@ copied_entry image table nodes headers child = entry_text (bytes_at image (table
 
 abbrev pub copied_entries : List ℕ → ℕ → List NodePlace → List ℕ → List ℕ → List ℕ
 copied_entries image table nodes headers children = in_row (map (copied_entry image table nodes headers) children)
+
+-- rule 24 of the entry of one of some children in the table at a place
+pub record BreaksNames (table : ℕ) (nodes : List NodePlace) (children : List ℕ) (rule at : ℕ) : Type 0 where
+  pub child : ℕ
+  pub one : Contains children child
+  pub breaks : IsBeyond (table + 16 + 44 * position_in (slice_get nodes child)) rule at

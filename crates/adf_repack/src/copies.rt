@@ -7,7 +7,7 @@ ghost use Rattle.adf_records.specs.View.{HasOffsets};
 ghost use Rattle.layout_lint.specs.Nodes.{table_of};
 ghost use Rattle.adf_repack.specs.Families.{children_of, IsChain};
 ghost use Rattle.adf_repack.specs.Sources.{IsReady};
-ghost use Rattle.adf_repack.specs.Copies.{Copies, no_rule, position_in, copied_entries};
+ghost use Rattle.adf_repack.specs.Copies.{Copies, no_rule, position_in, copied_entries, BreaksNames};
 
 use crate::families::Families;
 use crate::puts::{put, put_entry};
@@ -78,7 +78,8 @@ pub fn copy_entries<B: Blocks, E: Device>(
         ≡ length (children_of nodes.now number) }
     requires near { (k : ℕ) → k < length nodes.now → get_or headers.now k 0 < 2 ^ 44 }
     requires within { count_in writer.old + 44 * length (children_of nodes.now number) ≤ 2 ^ 44 }
-    ensures { Copies B.is_sound B.state E.state (λ rule at. (rule ≡ 24) × (2 ^ 44 < at + 32))
+    ensures { Copies B.is_sound B.state E.state
+        (BreaksNames (table_of header.now) nodes.now (children_of nodes.now number))
         (44 * length (children_of nodes.now number))
         (λ image. copied_entries image (table_of header.now) nodes.now headers.now
         (children_of nodes.now number))

@@ -11,7 +11,7 @@ ghost use Rattle.cg_io.specs.Device.{GivesAt};
 ghost use Rattle.layout_lint.specs.Nodes.{numbers_of, table_of};
 ghost use Rattle.node_reads.specs.Headers.{header_rows, IsHeader};
 ghost use Rattle.node_reads.specs.Reads.{ReadAt, Breaks, IsUnread};
-ghost use Rattle.adf_repack.specs.Sources.{IsReady, IsUnread as IsReadFault, IsBroken};
+ghost use Rattle.adf_repack.specs.Sources.{IsReady, IsUnread as IsReadFault, IsBroken, IsBeyond};
 
 use crate::source::{Page, bytes_at};
 use adf_format::fields::{ENTRY_LENGTH, HEAD_LENGTH};
@@ -128,7 +128,8 @@ pub fn read_name<B: Blocks>(
     ensures long { IfOk result (λ name. length name ≡ 32) }
     ensures reads { OnlyReads (B.state blocks.old) (B.state blocks.new) }
     ensures cause { IfErr result (λ e. IsReadFault (B.state blocks.old).faults
-        (B.state blocks.new).faults e ⊎ IsBroken (λ rule at. (rule ≡ 24) × (2 ^ 44 < at + 32)) e) }
+        (B.state blocks.new).faults e
+        ⊎ IsBroken (IsBeyond (table_of header.now + 16 + 44 * position)) e) }
 {
     let table = table_place(header);
     let at = table + HEAD_LENGTH as u64 + ENTRY_LENGTH as u64 * u64::from(position);

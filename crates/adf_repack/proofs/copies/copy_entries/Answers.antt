@@ -1,4 +1,4 @@
-use Rattle.std.proofs.Common.{◌≡◌, ◌<◌, ◌∙◌, ap, arith, ℕ, List, length, get_or}
+use Rattle.std.proofs.Common.{◌≡◌, ◌<◌, ◌∙◌, ap, arith, inl, inr, ℕ, List, length, get_or}
 use Rattle.layout_lint.specs.Nodes.{table_of}
 use Rattle.adf_format.specs.Pointer.{To}
 use Rattle.adf_format.specs.Records.{entry_text}
@@ -7,7 +7,8 @@ use Rattle.adf_repack.specs.Writers.{appended_in}
 use Rattle.adf_repack.proofs.WriterLaws.{writes_then}
 use Rattle.adf_repack.proofs.AppendLaws.{only_then}
 use Rattle.adf_repack.proofs.SourceLaws.{reads_then}
-use Rattle.adf_repack.proofs.EntryLaws.{more, here, inside, on, entry_is, entries_then, entry_size}
+use Rattle.adf_repack.proofs.PayloadLaws.{unread_then}
+use Rattle.adf_repack.proofs.EntryLaws.{broken_name, more, here, inside, on, entry_is, entries_then, entry_size}
 use Rattle.adf_repack.proofs.copies.copy_entries.Goals as goal
 
 pub position_of-position-requires : goal.position_of-position-requires
@@ -50,4 +51,25 @@ loop-done-preserved g c =
       effect = only_then _ _ _ c.loop-done.invariant.effect put.effect;
       later = omega (arith, c.loop-done.invariant.later, put.later);
       lost = omega (arith, c.loop-done.invariant.lost, put.lost);
+    }
+
+pub returns-in-Err : goal.returns-in-Err
+returns-in-Err g c =
+    let before = c.loop-done.invariant in
+    record {
+      ready = c.read_name.ensures.ready;
+      reads = reads_then _ _ _ before.reads c.read_name.ensures.reads;
+      sound = tt;
+      appended = tt;
+      count = tt;
+      wrote = tt;
+      effect = before.effect;
+      later = before.later;
+      lost = before.lost;
+      cause = elim c.in-Err.ensures.cause [
+        | inl unread ↦ inl (unread_then (g.B.Blocks.state c.args.blocks.now) (g.B.Blocks.state c.loop-done.blocks) (g.B.Blocks.state c.read_name.new.blocks) c.in-Err.error before.reads unread)
+        | inr broken ↦ inr (inr (broken_name c.args.nodes.now c.args.number c.loop-done.done c.number_at-done-end.result c.loop-done.child c.args.families.now.next.items c.args.families.now.count.items c.requires.number
+            (c.number_at-done-end.ensures ∙ ap (λ (l : List ℕ). get_or l c.args.number 0) c.deref-2.ensures.value) c.requires.children c.loop-done-test.true before.list
+            (table_of c.args.header.now) c.position_of-position.result c.in-Err.error c.position_of-position.ensures broken))
+      ];
     }
