@@ -10,7 +10,7 @@ use Rattle.adf_repack.proofs.WriterLaws.{more_then, writes_then}
 pub only_then : (s t u : DeviceState) → OnlyWrites s t → OnlyWrites t u → OnlyWrites s u
 only_then s t u first then = record { reads = then.reads ∙ first.reads; writes = omega (arith, first.writes, then.writes) }
 
-unwritten_then : (s t u : DeviceState) (e : AdfError) → s.faults ≤ t.faults → s.lost ≤ t.lost → IsUnwritten t u e → IsUnwritten s u e
+pub unwritten_then : (s t u : DeviceState) (e : AdfError) → s.faults ≤ t.faults → s.lost ≤ t.lost → IsUnwritten t u e → IsUnwritten s u e
 unwritten_then s t u e faults lost h = record { is = h.is; faults = omega (arith, faults, h.faults); lost = omega (arith, lost, h.lost) }
 
 module _ {E : Type 0} (state : E → DeviceState) (a b : List ℕ) (s t u : BlockWriter E) where

@@ -6,3 +6,5 @@ pub mod AppendLaws
 pub mod SourceLaws
 pub mod EntryLaws
 pub mod PayloadLaws
+pub mod CopyingLaws
+pub mod PlanLaws

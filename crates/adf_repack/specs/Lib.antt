@@ -4,3 +4,4 @@ pub mod Families
 pub mod Copies
 pub mod Sources
 pub mod Payloads
+pub mod Plans

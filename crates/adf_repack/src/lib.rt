@@ -10,9 +10,11 @@ mod families;
 mod headers;
 mod payloads;
 mod places;
+mod plan;
 mod puts;
 mod reads;
 mod source;
+mod tables;
 mod writer;
 
 pub use copies::{copy_entries, copy_range};
@@ -21,10 +23,12 @@ pub use families::{Families, families_of};
 pub use headers::{copied_is_packed, dimensions_within, file_header, no_lists, packed_header};
 pub use payloads::{Payload, read_chunk, read_payload};
 pub use places::{NodeShape, PackedPlaces, check_length, length_is_packed, packed_places};
+pub use plan::Plan;
 pub use puts::{
     put, put_chunk_end, put_chunk_head, put_entry, put_head, put_header, put_table_end,
     put_table_head,
 };
 pub use reads::{read_file_header, read_header, read_name, size_of_data};
 pub use source::{Page, bytes_at, read_at};
+pub use tables::copy_table;
 pub use writer::BlockWriter;

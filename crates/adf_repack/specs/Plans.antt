@@ -1,0 +1,39 @@
+-- What a copy is made of, before it is written.
+use Rattle.std.specs.Prelude.{◌≡◌, ℕ, ◌+◌, ◌*◌, ◌^◌, ◌<◌, ◌≤◌, List, ◌++◌, length, get_or, None}
+use Rattle.adf_format.specs.Pointer.{To}
+use Rattle.adf_format.specs.Records.{SubNodes, head_text, end_tag}
+use Rattle.layout_lint.specs.declared.verdict.NodePlace.{NodePlace}
+use Rattle.adf_repack.specs.declared.places.NodeShape.{NodeShape}
+use Rattle.adf_repack.specs.declared.plan.Plan.{Plan}
+use Rattle.adf_repack.specs.Families.{children_of, IsChain}
+use Rattle.adf_repack.specs.Places.{place_of, length_of}
+use Rattle.adf_repack.specs.Copies.{copied_entries}
+
+abbrev pub no_shape : NodeShape
+no_shape = record { children = 0; size = None }
+
+abbrev pub shape_at : Plan → ℕ → NodeShape
+shape_at plan k = get_or plan.shapes.items k no_shape
+
+-- where the header of a node stands in the copy
+abbrev pub header_at : Plan → ℕ → ℕ
+header_at plan k = place_of plan.wide plan.shapes.items k
+
+-- the children of each node and their numbers, and the places that follow from the shapes, within what pointers reach
+pub record IsPlan (nodes : List NodePlace) (plan : Plan) : Type 0 where
+  pub first : length plan.families.first.items ≡ length nodes
+  pub next : length plan.families.next.items ≡ length nodes
+  pub count : length plan.families.count.items ≡ length nodes
+  pub lists : (k : ℕ) → k < length nodes → IsChain plan.families.next.items (get_or plan.families.first.items k 0) (children_of nodes k)
+  pub counts : (k : ℕ) → k < length nodes → get_or plan.families.count.items k 0 ≡ length (children_of nodes k)
+  pub shapes : length plan.shapes.items ≡ length nodes
+  pub children : (k : ℕ) → k < length nodes → (shape_at plan k).children ≡ length (children_of nodes k)
+  pub few : (k : ℕ) → k < length nodes → (shape_at plan k).children ≤ 2 ^ 20
+  pub headers : length plan.headers.items ≡ length nodes
+  pub places : (k : ℕ) → k < length nodes → get_or plan.headers.items k 0 ≡ header_at plan k
+  pub near : length_of plan.wide plan.shapes.items ≤ 2 ^ 44
+
+-- a table of children at a place of the copy, by the table of their parent
+abbrev pub copied_table : List ℕ → ℕ → List NodePlace → List ℕ → List ℕ → ℕ → List ℕ
+copied_table image table nodes headers children place =
+    head_text SubNodes (To (place + 16 + 44 * length children)) ++ (copied_entries image table nodes headers children ++ end_tag SubNodes)
