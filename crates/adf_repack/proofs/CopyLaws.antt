@@ -4,14 +4,19 @@ use Rattle.std.specs.Prelude.{option_map, cond, not, is_some, ◌==◌}
 use Rattle.std.specs.List.{range_with_len}
 use Rattle.std.proofs.lemmas.List.{get_or-append_right, drop-replicate}
 use Rattle.std.proofs.lemmas.Bool.{cases_lt}
-use Rattle.adf_format.specs.Hex.{hex_text}
+use Rattle.adf_format.specs.Hex.{hex_text, hex_value}
+use Rattle.std.specs.Prelude.{unwrap_or}
+use Rattle.std.proofs.Math.Seq.{take-nil}
+use Rattle.adf_records.specs.declared.NodeHeader.{NodeHeader}
+use Rattle.adf_records.specs.View.{record_of}
+use Rattle.layout_lint.specs.Nodes.{numbers_of}
 use Rattle.adf_format.specs.Parts.{node_length, dimension_digits}
 use Rattle.adf_format.specs.Placement.{TablePart}
 use Rattle.adf_format.specs.LaysOut.{entry_count, chunk_pointer}
 use Rattle.adf_format.specs.Spelled.{pointer_to}
 use Rattle.adf_format.specs.Packed.{packed_table}
 use Rattle.packed_laws.specs.PackedForm.{table_at, chunks_at, packed_dims}
-use Rattle.adf_repack.specs.Copies.{pointer_when, CopiedIsPacked}
+use Rattle.adf_repack.specs.Copies.{pointer_when, numbers_in, CopiedIsPacked}
 use Rattle.adf_repack.specs.Places.{limited}
 use Rattle.adf_repack.proofs.PlaceLaws.{table_is, no_zero}
 
@@ -51,6 +56,21 @@ copied_is wide h place node is =
     ) refl
 
 -- ---- twelve dimensions
+
+map_past : (f : List ℕ → List ℕ) (xs : List (List ℕ)) (i : ℕ) → f [] ≡ [] → get_or (map f xs) i [] ≡ f (get_or xs i [])
+map_past f [] i none = sym none
+map_past f (x ∷ xs) zero none = refl
+map_past f (x ∷ xs) (suc i) none = map_past f xs i none
+
+map_same : (f g : ℕ → ℕ) (xs : List ℕ) → ((i : ℕ) → f i ≡ g i) → map f xs ≡ map g xs
+map_same f g [] same = refl
+map_same f g (x ∷ xs) same = ap (λ n. n ∷ map f xs) (same x) ∙ ap (λ l. g x ∷ l) (map_same f g xs same)
+
+-- the numbers of a header are those of its record
+pub numbers_are : (h : NodeHeader) → numbers_of h ≡ numbers_in (record_of h)
+numbers_are h =
+    map_same (λ i. unwrap_or (hex_value (take (dimension_digits h.wide) (get_or h.dims i []))) 0) (λ i. unwrap_or (hex_value (get_or (map (take (dimension_digits h.wide)) h.dims) i [])) 0) (range_with_len 0 12)
+    (λ i. ap (λ (d : List ℕ). unwrap_or (hex_value d) 0) (sym (map_past (take (dimension_digits h.wide)) h.dims i (take-nil (dimension_digits h.wide)))))
 
 -- the first of twelve numbers, and zeros
 pub first_of : (numbers copied zeros : List ℕ) (r m : ℕ) → length numbers ≡ 12 → m ≡ min r 12 → copied ≡ take m numbers → zeros ≡ replicate 12 0

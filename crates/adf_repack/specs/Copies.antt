@@ -1,16 +1,16 @@
 -- What is written of a node, by its header as it was read, and what appending it does.
 use Rattle.std.specs.List.{Contains}
-use Rattle.std.specs.Prelude.{◌≡◌, ◌⊎◌, ℕ, ◌+◌, ◌*◌, ◌==◌, ◌≤◌, Bool, not, cond, List, length, take, is_some, map, slice_get, get_or, Option, None, Some, Result, OnOk, IfErr}
+use Rattle.std.specs.Prelude.{◌≡◌, ◌⊎◌, ℕ, ◌+◌, ◌*◌, ◌==◌, ◌≤◌, Bool, not, cond, List, [], unwrap_or, slice_index_or, length, take, is_some, map, slice_get, get_or, Option, None, Some, Result, OnOk, IfErr}
 use Rattle.adf_format.specs.Fields.{text_field}
 use Rattle.adf_format.specs.Pointer.{Pointer, Blank, To}
 use Rattle.adf_format.specs.Parts.{node_length}
 use Rattle.adf_format.specs.Records.{NodeRecord, entry_text}
 use Rattle.adf_format.specs.Tree.{Node}
 use Rattle.adf_model.specs.declared.error.AdfError.{AdfError}
-use Rattle.adf_records.specs.declared.NodeHeader.{NodeHeader}
 use Rattle.cg_io.specs.Cause.{Rose}
 use Rattle.cg_io.specs.Device.{DeviceState, bytes_at}
-use Rattle.layout_lint.specs.Nodes.{numbers_of}
+use Rattle.adf_format.specs.Hex.{hex_value}
+use Rattle.adf_format.specs.FirstFault.{count_up}
 use Rattle.packed_laws.specs.PackedForm.{packed_dims, packed_parts, packed_record}
 use Rattle.layout_lint.specs.declared.verdict.NodePlace.{NodePlace}
 use Rattle.adf_format.specs.Spelled.{in_row}
@@ -28,8 +28,12 @@ use Rattle.adf_repack.specs.Writers.{IsWriter, appended_in, with_more, count_in,
 abbrev pub pointer_when : Bool → ℕ → Pointer
 pointer_when there place = cond there (To place) Blank
 
+-- the twelve dimensions of a header as numbers
+abbrev pub numbers_in : NodeRecord → List ℕ
+numbers_in r = map (λ i. unwrap_or (hex_value (slice_index_or r.dims i [])) 0) (count_up 12)
+
 -- the record of a node, of which the header in the new file stands at a place: texts, type and dimensions are those that were read
-abbrev pub copied_record : Bool → NodeHeader → ℕ → NodeShape → NodeRecord
+abbrev pub copied_record : Bool → NodeRecord → ℕ → NodeShape → NodeRecord
 copied_record wide h place shape = record {
   name = h.name;
   label = h.label;
@@ -38,22 +42,22 @@ copied_record wide h place shape = record {
   table = pointer_when (not (shape.children == 0)) (place + node_length wide);
   kind = h.kind;
   rank = h.rank;
-  dims = packed_dims wide (take h.rank (numbers_of h));
+  dims = packed_dims wide (take h.rank (numbers_in h));
   chunks = cond (is_some shape.size) 1 0;
   chunk = pointer_when (is_some shape.size) (place + node_length wide + table_room shape.children);
 }
 
 -- a header has the texts, the type and the dimensions of a node
-pub record IsHeaderOf (h : NodeHeader) (node : Node) : Type 0 where
+pub record IsHeaderOf (h : NodeRecord) (node : Node) : Type 0 where
   pub name : h.name ≡ text_field 32 node.name
   pub label : h.label ≡ text_field 32 node.label
   pub kind : h.kind ≡ node.kind
   pub rank : h.rank ≡ length node.dims
-  pub dims : take h.rank (numbers_of h) ≡ node.dims
+  pub dims : take h.rank (numbers_in h) ≡ node.dims
 
 -- what is written of the header of a node is what the packed file has there
 abbrev pub CopiedIsPacked : Type 0
-CopiedIsPacked = (wide : Bool) (h : NodeHeader) (place : ℕ) (node : Node) → IsHeaderOf h node
+CopiedIsPacked = (wide : Bool) (h : NodeRecord) (place : ℕ) (node : Node) → IsHeaderOf h node
     → copied_record wide h place (shape_of node) ≡ packed_record wide node (packed_parts wide place node)
 
 -- ---- what is appended

@@ -1,13 +1,15 @@
 -- What a copy is made of, before it is written.
-use Rattle.std.specs.Prelude.{◌≡◌, ℕ, ◌+◌, ◌*◌, ◌^◌, ◌<◌, ◌≤◌, List, ◌++◌, length, get_or, None}
-use Rattle.adf_format.specs.Pointer.{To}
-use Rattle.adf_format.specs.Records.{SubNodes, head_text, end_tag}
+use Rattle.std.specs.Prelude.{◌≡◌, ◌⊎◌, ℕ, ◌+◌, ◌*◌, ◌^◌, ◌<◌, ◌≤◌, Bool, List, [], ◌∷◌, ◌++◌, length, get_or, Option, None, Some}
+use Rattle.adf_format.specs.Pointer.{To, place_value}
+use Rattle.adf_format.specs.Records.{NodeRecord, SubNodes, head_text, end_tag, node_text}
+use Rattle.adf_format.specs.Parts.{node_length}
 use Rattle.layout_lint.specs.declared.verdict.NodePlace.{NodePlace}
 use Rattle.adf_repack.specs.declared.places.NodeShape.{NodeShape}
 use Rattle.adf_repack.specs.declared.plan.Plan.{Plan}
 use Rattle.adf_repack.specs.Families.{children_of, IsChain}
-use Rattle.adf_repack.specs.Places.{place_of, length_of}
-use Rattle.adf_repack.specs.Copies.{copied_entries}
+use Rattle.adf_repack.specs.Places.{place_of, length_of, table_room}
+use Rattle.adf_repack.specs.Copies.{copied_entries, copied_record, BreaksNames}
+use Rattle.adf_repack.specs.Payloads.{copied_chunk, BreaksData}
 
 abbrev pub no_shape : NodeShape
 no_shape = record { children = 0; size = None }
@@ -37,3 +39,33 @@ pub record IsPlan (nodes : List NodePlace) (plan : Plan) : Type 0 where
 abbrev pub copied_table : List ℕ → ℕ → List NodePlace → List ℕ → List ℕ → ℕ → List ℕ
 copied_table image table nodes headers children place =
     head_text SubNodes (To (place + 16 + 44 * length children)) ++ (copied_entries image table nodes headers children ++ end_tag SubNodes)
+
+-- ---- a node of a copy
+
+-- no bytes without children
+abbrev pub copied_children : List ℕ → ℕ → List NodePlace → List ℕ → List ℕ → ℕ → List ℕ
+copied_children image table nodes headers [] place = []
+copied_children image table nodes headers (k ∷ ks) place = copied_table image table nodes headers (k ∷ ks) place
+
+-- no bytes without data
+abbrev pub copied_data : List ℕ → NodeRecord → Option ℕ → ℕ → List ℕ
+copied_data image r None place = []
+copied_data image r (Some size) place = copied_chunk image r size place
+
+-- where the table of children stands that a header names; 0 where there is none
+abbrev pub table_in : NodeRecord → ℕ
+table_in r = place_value (Some r.table)
+
+-- its parts, by what its header says
+abbrev pub copied_node : List ℕ → List NodePlace → Plan → ℕ → NodeRecord → List ℕ
+copied_node image nodes plan k r =
+    let shape = shape_at plan k in
+    let table = header_at plan k + node_length plan.wide in
+    node_text (copied_record plan.wide r (header_at plan k) shape)
+    ++ (copied_children image (table_in r) nodes plan.headers.items (children_of nodes k) table ++ copied_data image r shape.size (table + table_room shape.children))
+
+-- what of the parts of a node breaks a rule: a dimension that the version has no digits for, a name or the data
+abbrev pub BreaksParts : Option (List ℕ) → Bool → List NodePlace → Plan → ℕ → ℕ → NodeRecord → ℕ → ℕ → Type 0
+BreaksParts held wide nodes plan k place r rule at =
+    BreaksNames (table_in r) nodes (children_of nodes k) rule at
+    ⊎ ((size : ℕ) × ((shape_at plan k).size ≡ Some size) × BreaksData held wide r place size rule at)

@@ -77,7 +77,7 @@ pub fn packed_header(
     requires fits { (i : ℕ) → i < 12 → get_or values.now i 0 < 16 ^ dimension_digits wide }
     requires few { shape.children ≤ 2 ^ 20 }
     requires near { place + room_of wide shape ≤ 2 ^ 44 }
-    ensures says { record_of result ≡ copied_record wide header.now place shape }
+    ensures says { record_of result ≡ copied_record wide (record_of header.now) place shape }
     ensures offsets { HasOffsets result }
     ensures wide { result.wide ≡ wide }
 {
