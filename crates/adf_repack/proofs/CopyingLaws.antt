@@ -1,13 +1,13 @@
 -- Copies behind others.
-use Rattle.std.proofs.Common.{◌≡◌, ℕ, ◌∙◌, ap, arith, ◌+◌, ◌≤◌, List, ◌++◌, length, Result, Ok, Err, inl, inr, ◌⊎◌, Some}
+use Rattle.std.proofs.Common.{◌≡◌, ℕ, ◌∙◌, ap, arith, refl, sym, [], ◌+◌, ◌≤◌, List, ◌++◌, length, Result, Ok, Err, inl, inr, ◌⊎◌, Some}
 use Rattle.cg_io.specs.Device.{DeviceState}
 use Rattle.adf_model.specs.declared.error.AdfError.{AdfError}
 use Rattle.adf_repack.specs.declared.source.Page.{Page}
 use Rattle.adf_repack.specs.declared.writer.BlockWriter.{BlockWriter}
 use Rattle.adf_repack.specs.Sources.{IsReady, IsUnread, IsBroken}
-use Rattle.adf_repack.specs.Writers.{with_more, count_in, blocks_in, state_under, appended_in}
+use Rattle.adf_repack.specs.Writers.{IsWriter, with_more, count_in, blocks_in, state_under, appended_in}
 use Rattle.adf_repack.specs.Copies.{Appends, Copies, IsUnwritten}
-use Rattle.adf_repack.proofs.WriterLaws.{more_then, writes_then}
+use Rattle.adf_repack.proofs.WriterLaws.{more_then, more_none, writes_then, writes_none}
 use Rattle.adf_repack.proofs.AppendLaws.{only_then, unwritten_then}
 use Rattle.adf_repack.proofs.SourceLaws.{reads_then, reads_none}
 use Rattle.adf_repack.proofs.PayloadLaws.{unread_then}
@@ -42,6 +42,22 @@ module _ {B E : Type 0} (is_sound : B → Type 0) (source : B → DeviceState) (
     later = h.later;
     lost = h.lost;
     cause = inr (inl h.cause);
+  }
+
+  -- nothing
+  pub copies_none : (x : Unit) (b : B) (page : Page) (s : BlockWriter E) → IsReady (is_sound b) (source b).held page → IsWriter target s
+      → Copies is_sound source target broken 0 (λ image. []) b b page s s (Ok x)
+  copies_none x b page s ready sound = record {
+    ready = ready;
+    reads = reads_none (source b);
+    sound = sound;
+    appended = λ image e. sym (more_none (appended_in target s));
+    count = omega arith;
+    wrote = writes_none (blocks_in s) (state_under target s);
+    effect = record { reads = refl; writes = omega arith };
+    later = omega arith;
+    lost = omega arith;
+    cause = tt;
   }
 
   module _ (n m : ℕ) (f g : List ℕ → List ℕ) (a b : B) (p : Page) (s t : BlockWriter E) where
@@ -131,3 +147,31 @@ module _ {B E : Type 0} (is_sound : B → Type 0) (source : B → DeviceState) (
       ])
     ];
   }
+
+-- the same bytes in other words
+pub copies_as : {B E : Type 0} (is_sound : B → Type 0) (source : B → DeviceState) (target : E → DeviceState) (broken : ℕ → ℕ → Type 0) (n m : ℕ) (f g : List ℕ → List ℕ) (a b : B) (p : Page)
+    (s t : BlockWriter E) (r : Result Unit AdfError) → n ≡ m → ((image : List ℕ) → f image ≡ g image) → Copies is_sound source target broken n f a b p s t r → Copies is_sound source target broken m g a b p s t r
+copies_as is_sound source target broken n m f g a b p s t (Ok x) size same h = record {
+  ready = h.ready;
+  reads = h.reads;
+  sound = h.sound;
+  appended = λ image e. h.appended image e ∙ ap (with_more (appended_in target s)) (same image);
+  count = h.count ∙ ap (λ k. count_in s + k) size;
+  wrote = h.wrote;
+  effect = h.effect;
+  later = h.later;
+  lost = h.lost;
+  cause = tt;
+}
+copies_as is_sound source target broken n m f g a b p s t (Err e) size same h = record {
+  ready = h.ready;
+  reads = h.reads;
+  sound = tt;
+  appended = tt;
+  count = tt;
+  wrote = tt;
+  effect = h.effect;
+  later = h.later;
+  lost = h.lost;
+  cause = h.cause;
+}

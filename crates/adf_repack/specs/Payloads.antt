@@ -1,5 +1,5 @@
 -- The data of a node as its chunks hold them, by what its header says.
-use Rattle.std.specs.Prelude.{◌≡◌, ◌≢◌, ◌⊎◌, ℕ, ◌+◌, ◌-◌, ◌*◌, ◌^◌, ◌<◌, ◌==◌, Bool, false, cond, max, List, ◌++◌, length, take, replicate, Option, Some, IfSome}
+use Rattle.std.specs.Prelude.{◌≡◌, ◌≢◌, ◌⊎◌, ℕ, ◌+◌, ◌-◌, ◌*◌, ◌^◌, ◌<◌, ◌==◌, Bool, false, cond, max, List, [], ◌++◌, length, take, replicate, Option, None, Some, IfSome}
 use Rattle.std.specs.List.{flat_map}
 use Rattle.adf_format.specs.declared.fields.TheConstants.{HEAD_POINTER, CHUNK_START}
 use Rattle.adf_format.specs.Pointer.{is_place, place_of, place_value, To}
@@ -45,6 +45,11 @@ abbrev pub copied_chunk : List ℕ → NodeRecord → ℕ → ℕ → List ℕ
 copied_chunk image h size place =
     head_text Data (To (place + 16 + max 12 size)) ++ (take size (payloads_of image h) ++ (replicate (12 - size) 0 ++ end_tag Data))
 
+-- no bytes without data
+abbrev pub copied_data : List ℕ → NodeRecord → Option ℕ → ℕ → List ℕ
+copied_data image r None place = []
+copied_data image r (Some size) place = copied_chunk image r size place
+
 -- ---- broken rules
 
 -- rule 25 of an entry: it ends by the last place, and names a chunk
@@ -85,3 +90,8 @@ pub record BreaksChunk (held : Option (List ℕ)) (h : NodeRecord) (rule at : �
 -- what of the chunks of a node breaks a rule
 abbrev pub BreaksData : Option (List ℕ) → Bool → NodeRecord → ℕ → ℕ → ℕ → ℕ → Type 0
 BreaksData held wide h place size rule at = BreaksTable held h rule at ⊎ (BreaksChunk held h rule at ⊎ IsShort held wide h place size rule at)
+
+-- the same, of a node that may have no data
+abbrev pub BreaksContents : Option (List ℕ) → Bool → NodeRecord → ℕ → Option ℕ → ℕ → ℕ → Type 0
+BreaksContents held wide h place None rule at = ⊥
+BreaksContents held wide h place (Some size) rule at = BreaksData held wide h place size rule at

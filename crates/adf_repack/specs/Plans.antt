@@ -1,15 +1,16 @@
 -- What a copy is made of, before it is written.
-use Rattle.std.specs.Prelude.{◌≡◌, ◌⊎◌, ℕ, ◌+◌, ◌*◌, ◌^◌, ◌<◌, ◌≤◌, Bool, List, [], ◌∷◌, ◌++◌, length, get_or, Option, None, Some}
+use Rattle.std.specs.Prelude.{◌≡◌, ◌⊎◌, ℕ, ◌+◌, ◌*◌, ◌^◌, ◌<◌, ◌≤◌, Bool, List, [], ◌∷◌, ◌++◌, length, take, get_or, Option, None, Some}
 use Rattle.adf_format.specs.Pointer.{To, place_value}
 use Rattle.adf_format.specs.Records.{NodeRecord, SubNodes, head_text, end_tag, node_text}
-use Rattle.adf_format.specs.Parts.{node_length}
+use Rattle.adf_format.specs.Parts.{node_length, dimension_digits}
+use Rattle.std.specs.List.{Contains}
 use Rattle.layout_lint.specs.declared.verdict.NodePlace.{NodePlace}
 use Rattle.adf_repack.specs.declared.places.NodeShape.{NodeShape}
 use Rattle.adf_repack.specs.declared.plan.Plan.{Plan}
 use Rattle.adf_repack.specs.Families.{children_of, IsChain}
 use Rattle.adf_repack.specs.Places.{place_of, length_of, table_room}
-use Rattle.adf_repack.specs.Copies.{copied_entries, copied_record, BreaksNames}
-use Rattle.adf_repack.specs.Payloads.{copied_chunk, BreaksData}
+use Rattle.adf_repack.specs.Copies.{copied_entries, copied_record, numbers_in, BreaksNames}
+use Rattle.adf_repack.specs.Payloads.{copied_data, BreaksContents}
 
 abbrev pub no_shape : NodeShape
 no_shape = record { children = 0; size = None }
@@ -47,11 +48,6 @@ abbrev pub copied_children : List ℕ → ℕ → List NodePlace → List ℕ �
 copied_children image table nodes headers [] place = []
 copied_children image table nodes headers (k ∷ ks) place = copied_table image table nodes headers (k ∷ ks) place
 
--- no bytes without data
-abbrev pub copied_data : List ℕ → NodeRecord → Option ℕ → ℕ → List ℕ
-copied_data image r None place = []
-copied_data image r (Some size) place = copied_chunk image r size place
-
 -- where the table of children stands that a header names; 0 where there is none
 abbrev pub table_in : NodeRecord → ℕ
 table_in r = place_value (Some r.table)
@@ -64,8 +60,12 @@ copied_node image nodes plan k r =
     node_text (copied_record plan.wide r (header_at plan k) shape)
     ++ (copied_children image (table_in r) nodes plan.headers.items (children_of nodes k) table ++ copied_data image r shape.size (table + table_room shape.children))
 
--- what of the parts of a node breaks a rule: a dimension that the version has no digits for, a name or the data
+-- a dimension that the version has no digits for
+abbrev pub HasLong : Bool → NodeRecord → Type 0
+HasLong wide r = (d : ℕ) × Contains (take r.rank (numbers_in r)) d × (16 ^ dimension_digits wide ≤ d)
+
+-- what of the parts of a node breaks a rule: a dimension that is too long, a name or the data
 abbrev pub BreaksParts : Option (List ℕ) → Bool → List NodePlace → Plan → ℕ → ℕ → NodeRecord → ℕ → ℕ → Type 0
 BreaksParts held wide nodes plan k place r rule at =
-    BreaksNames (table_in r) nodes (children_of nodes k) rule at
-    ⊎ ((size : ℕ) × ((shape_at plan k).size ≡ Some size) × BreaksData held wide r place size rule at)
+    ((rule ≡ 21) × (at ≡ place) × HasLong plan.wide r)
+    ⊎ (BreaksNames (table_in r) nodes (children_of nodes k) rule at ⊎ BreaksContents held wide r place (shape_at plan k).size rule at)

@@ -7,9 +7,10 @@ ghost use Rattle.adf_format.specs.Pointer.{To};
 ghost use Rattle.adf_format.specs.Records.{Data, head_text, end_tag};
 ghost use Rattle.adf_records.specs.View.{record_of, HasOffsets};
 ghost use Rattle.adf_repack.specs.Writers.{IsWriter, count_in};
+ghost use Rattle.adf_repack.specs.Places.{data_room};
 ghost use Rattle.adf_repack.specs.Sources.{IsReady};
 ghost use Rattle.adf_repack.specs.Copies.{Copies};
-ghost use Rattle.adf_repack.specs.Payloads.{payloads_of, copied_chunk, BreaksData};
+ghost use Rattle.adf_repack.specs.Payloads.{payloads_of, copied_chunk, copied_data, BreaksData, BreaksContents};
 
 use crate::copies::copy_range;
 use crate::payloads::{read_chunk, read_payload};
@@ -52,6 +53,35 @@ pub fn copy_data<B: Blocks, E: Device>(
         Err(error) => return Err(error),
     }
     put_chunk_end(writer, size)
+}
+
+/// Appends the data of a node, where it has data, as `copy_data` does.
+pub fn copy_contents<B: Blocks, E: Device>(
+    blocks: &mut B,
+    page: &mut Page,
+    writer: &mut BlockWriter<E>,
+    header: &NodeHeader,
+    place: u64,
+    size: Option<u64>,
+    chunk: u64,
+) -> Result<(), AdfError>
+    requires ready { IsReady (B.is_sound blocks.old) (B.state blocks.old).held page.old }
+    requires sound { IsWriter E.state writer.old }
+    requires offsets { HasOffsets header.now }
+    requires near { place + node_length header.now.wide ≤ 2 ^ 44 }
+    requires chunk { chunk + data_room size ≤ 2 ^ 44 }
+    requires within { count_in writer.old + data_room size ≤ 2 ^ 44 }
+    ensures copies { Copies B.is_sound B.state E.state
+        (BreaksContents (B.state blocks.old).held header.now.wide (record_of header.now) place size)
+        (data_room size) (λ image. copied_data image (record_of header.now) size chunk)
+        blocks.old blocks.new page.new writer.old writer.new result }
+    ensures enough { OnOk result (IfSome (B.state blocks.old).held
+        (λ image. IfSome size (λ n. n ≤ length (payloads_of image (record_of header.now))))) }
+{
+    match size {
+        None => Ok(()),
+        Some(size) => copy_data(blocks, page, writer, header, place, size, chunk),
+    }
 }
 
 // Appends the first bytes that the chunks of a node hold, so many, chunk by chunk. The header of the node stands at a place.

@@ -1,6 +1,6 @@
 //! The headers of a packed file and of its nodes.
 
-ghost use Rattle.std.specs.Prelude.{◌≡◌, ◌+◌, ◌^◌, ◌≤◌, ◌<◌, ℕ, map, take, replicate, get_or, ◌-◌, ◌++◌, cond, is_some, IsTrue};
+ghost use Rattle.std.specs.Prelude.{◌≡◌, ◌+◌, ◌^◌, ◌≤◌, ◌<◌, ℕ, map, take, replicate, get_or, ◌-◌, ◌++◌, cond, is_some, IsTrue, IsFalse};
 ghost use Rattle.adf_format.specs.Hex.{hex_text};
 ghost use Rattle.adf_format.specs.Parts.{node_length, dimension_digits};
 ghost use Rattle.adf_format.specs.Pointer.{Blank, To};
@@ -176,4 +176,20 @@ pub fn dimensions_within(header: &NodeHeader) -> [u64; 12]
     let mut within = [0u64; 12];
     within[..rank].copy_from_slice(&values[..rank]);
     within
+}
+
+/// Whether a version has digits for each of these dimensions.
+pub fn dimensions_fit(values: &[u64; 12], wide: bool) -> bool
+    ensures fit { IsTrue result → (i : ℕ) → i < 12
+        → get_or values.now i 0 < 16 ^ dimension_digits wide }
+    ensures long { IsFalse result → (i : ℕ) × (i < 12)
+        × (16 ^ dimension_digits wide ≤ get_or values.now i 0) }
+{
+    let most = if wide { u64::MAX } else { u64::from(u32::MAX) };
+    for i in 0..12 {
+        if values[i] > most {
+            return false;
+        }
+    }
+    true
 }

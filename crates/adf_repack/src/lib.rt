@@ -18,9 +18,11 @@ mod tables;
 mod writer;
 
 pub use copies::{copy_entries, copy_range};
-pub use data::copy_data;
+pub use data::{copy_contents, copy_data};
 pub use families::{Families, families_of};
-pub use headers::{copied_is_packed, dimensions_within, file_header, no_lists, packed_header};
+pub use headers::{
+    copied_is_packed, dimensions_fit, dimensions_within, file_header, no_lists, packed_header,
+};
 pub use payloads::{Payload, read_chunk, read_payload};
 pub use places::{NodeShape, PackedPlaces, check_length, length_is_packed, packed_places};
 pub use plan::Plan;
@@ -30,5 +32,5 @@ pub use puts::{
 };
 pub use reads::{read_file_header, read_header, read_name, size_of_data};
 pub use source::{Page, bytes_at, read_at};
-pub use tables::copy_table;
+pub use tables::{copy_children, copy_table};
 pub use writer::BlockWriter;

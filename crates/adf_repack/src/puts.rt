@@ -57,7 +57,9 @@ pub fn put_header<E: Device>(
     requires sound { IsWriter E.state writer.old }
     requires offsets { HasOffsets header.now }
     requires within { count_in writer.old + node_length header.now.wide ≤ 2 ^ 44 }
-    ensures { Appends E.state (node_text (record_of header.now)) writer.old writer.new result }
+    ensures appends { Appends E.state (node_text (record_of header.now)) writer.old writer.new
+        result }
+    ensures long { length (node_text (record_of header.now)) ≡ node_length header.now.wide }
 {
     if header.wide {
         put(writer, &encode_wide(header))
