@@ -1,9 +1,9 @@
 -- Nodes and files kept in memory, by their numbers.
 use Rattle.std.proofs.Common.{◌≡◌, ℕ, suc, ◌+◌, ◌<◌, true, false, List, [], ◌∷◌, map, drop, length, get_or, refl, sym, ◌∙◌, ap}
-use Rattle.std.specs.Prelude.{Option, Some, None, slice_get, unwrap_or, option_map, bytes_eq, Result, if◌then◌else◌}
+use Rattle.std.specs.Prelude.{Option, Some, None, slice_get, unwrap_or, is_some, option_map, bytes_eq, Result, if◌then◌else◌}
 use Rattle.std.proofs.lemmas.Option.{slice_get-map, unwrap_or-slice_get, slice_get_read}
 use Rattle.std.proofs.lemmas.List.{drop_more}
-use Rattle.adf_format.specs.Tree.{node_at, name_of, name_at, children_of, children_at}
+use Rattle.adf_format.specs.Tree.{node_at, is_live, name_of, name_at, children_of, children_at}
 use Rattle.adf_model.specs.declared.error.AdfError.{AdfError}
 use Rattle.adf_model.specs.declared.error.AdfError.TheVariants.{LinkMissing}
 use Rattle.adf_model.specs.Slots as model
@@ -20,6 +20,12 @@ use Rattle.follow_tests.specs.Kept.{node_of, tree_of, text_of, kind_of, slot_of,
 
 node_is : (nodes : List KeptNode) (serial : ℕ) (o : Option KeptNode) → slice_get nodes serial ≡ o → node_at (tree_of nodes) serial ≡ unwrap_or (option_map node_of o) None
 node_is nodes serial o e = sym (unwrap_or-slice_get (map node_of nodes) serial None) ∙ ap (λ s. unwrap_or s None) (slice_get-map node_of nodes serial ∙ ap (option_map node_of) e)
+
+pub node_there : (nodes : List KeptNode) (serial : ℕ) (node : KeptNode) → Some node ≡ slice_get nodes serial → is_live (tree_of nodes) serial ≡ true
+node_there nodes serial node e = ap is_some (node_is nodes serial (Some node) (sym e))
+
+pub no_node : (nodes : List KeptNode) (serial : ℕ) → None ≡ slice_get nodes serial → is_live (tree_of nodes) serial ≡ false
+no_node nodes serial e = ap is_some (node_is nodes serial None (sym e))
 
 text_here : (name : List ℕ) (text : Option (List ℕ)) (children : List ℕ) → text ≡ text_in (Some (record { name = name; label = []; kind = kind_of text; dims = []; bytes = text; children = children }))
 text_here name None children = refl

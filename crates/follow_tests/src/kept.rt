@@ -45,7 +45,11 @@ pub struct KeptFiles {
 
 // A copy of the text of a link among the nodes of a file.
 #[tactic(auto, using(crate::proofs::KeptLaws::text_there, crate::proofs::KeptLaws::no_text))]
-fn text_among(alloc: Global, nodes: &[KeptNode], serial: u64) -> Result<Option<Text>, AdfError>
+pub(crate) fn text_among(
+    alloc: Global,
+    nodes: &[KeptNode],
+    serial: u64,
+) -> Result<Option<Text>, AdfError>
     ensures text { IfOk result (λ text. text ≡ text_of nodes.now serial) }
     ensures memory { IfErr result (λ error. error ≡ AdfError.Memory) }
 {
@@ -90,7 +94,7 @@ fn children_among(nodes: &[KeptNode], serial: u64) -> &[u64]
 }
 
 // The first child of that name.
-fn first_among(nodes: &[KeptNode], serial: u64, name: &[u8]) -> Option<u64>
+pub(crate) fn first_among(nodes: &[KeptNode], serial: u64, name: &[u8]) -> Option<u64>
     ensures { result ≡ child_named (tree_of nodes.now) serial name.now }
 {
     let children = children_among(nodes, serial);
@@ -103,7 +107,7 @@ fn first_among(nodes: &[KeptNode], serial: u64, name: &[u8]) -> Option<u64>
 }
 
 // The open file of a name.
-fn linked(files: &[KeptFile], name: &[u8]) -> Result<u32, AdfError>
+pub(crate) fn linked(files: &[KeptFile], name: &[u8]) -> Result<u32, AdfError>
     requires { length files.now < 2 ^ 32 }
     ensures { result ≡ if_there (number_of (map file_of files.now) name.now) AdfError.LinkMissing
         (λ number. open_file (slot_at (map file_of files.now) number) number) }
