@@ -12,7 +12,7 @@ use std::test::Fail;
 
 // ---- files
 
-fn text(alloc: Global, bytes: &[u8]) -> Result<Text, Fail> {
+pub(crate) fn text(alloc: Global, bytes: &[u8]) -> Result<Text, Fail> {
     Ok(Text::new(bytes.to_vec(alloc)?))
 }
 
@@ -36,7 +36,7 @@ fn file(alloc: Global, name: &[u8], state: State, link: &[u8]) -> Result<KeptFil
 }
 
 // In `a` and in `b` a link K to the root of the other.
-fn files(alloc: Global, second: State, refused: u64) -> Result<Scripted, Fail>
+pub(crate) fn files(alloc: Global, second: State, refused: u64) -> Result<Scripted, Fail>
     ensures { IfOk result (λ files. length files.kept.files.items < 2 ^ 32) }
 {
     let one = file(alloc, b"a", State::Open, b"b>/")?;
@@ -57,7 +57,7 @@ fn files(alloc: Global, second: State, refused: u64) -> Result<Scripted, Fail>
 
 // ---- groups
 
-fn at(file: u32, serial: u64) -> NodeId {
+pub(crate) fn at(file: u32, serial: u64) -> NodeId {
     NodeId { file, serial }
 }
 

@@ -2,6 +2,7 @@
 
 ghost use Rattle.std.specs.Prelude.{◌≡◌, ◌<◌, ◌^◌, not, length};
 ghost use Rattle.std.specs.List.{list_any};
+ghost use Rattle.adf_model.specs.Answers.{asked_node};
 ghost use Rattle.adf_model.specs.Edits.{named_nodes};
 ghost use Rattle.adf_format.specs.Tree.{is_live};
 ghost use Rattle.adf_model.specs.Slots.{Slot};
@@ -9,8 +10,8 @@ ghost use Rattle.follow_tests.specs.Kept.{files_of, tree_of, slot_of};
 ghost use Rattle.follow_tests.specs.Scripted.{scripted_files, silent_devices, nothing_waits_in, slot_fails, fails};
 
 use crate::kept::{KeptFile, KeptFiles, KeptNode, State, first_among, linked, text_among};
-use adf_follow::{EditedFiles, OpenFiles};
-use adf_model::{AdfError, Edit, NodeId, Text};
+use adf_follow::{AskedFiles, EditedFiles, OpenFiles};
+use adf_model::{AdfError, Edit, NodeId, Query, Reply, Text};
 
 /// How often edits were done or refused, what waited was written, and was dropped.
 #[derive(Clone, Copy, Debug, PartialEq, Eq, Drop)]
@@ -139,6 +140,54 @@ impl OpenFiles for Scripted {
                 _ => Ok(None),
             },
             None => Ok(None),
+        }
+    }
+}
+
+// The node of which a query is.
+fn asked_node(query: &Query) -> NodeId
+    ensures { result ≡ asked_node query.now }
+{
+    match query {
+        Query::Name { node }
+        | Query::LabelOf { node }
+        | Query::ShapeOf { node }
+        | Query::ChildrenOf { node }
+        | Query::LinkText { node }
+        | Query::ReadAll { node }
+        | Query::Next { node }
+        | Query::FormatOf { node }
+        | Query::Parent { node }
+        | Query::Target { node } => *node,
+        Query::ReadPart { node, .. } => *node,
+        Query::Find { node, .. } => *node,
+    }
+}
+
+impl AskedFiles for Scripted {
+    fn enter_query(&self, query: &Query) -> Result<(), AdfError> {
+        let node = asked_node(query);
+        if node_fails(&self.kept, Test::Gone, node) {
+            return Err(AdfError::NoSuchFile);
+        }
+        if node_fails(&self.kept, Test::Shut, node) {
+            return Err(AdfError::NotOpen);
+        }
+        if node_fails(&self.kept, Test::Failed, node) {
+            return Err(AdfError::Broken);
+        }
+        if node_fails(&self.kept, Test::Dead, node) {
+            return Err(AdfError::NoSuchNode);
+        }
+        Ok(())
+    }
+
+    // The node that is reached, of a query that is answered with a node.
+    #[tactic(auto, using(crate::proofs::KeptLaws::asks_none, crate::proofs::ScriptLaws::never_told))]
+    fn answer_at(&mut self, at: NodeId, query: &Query) -> Result<Reply, AdfError> {
+        match query {
+            Query::Next { .. } | Query::Target { .. } => Ok(Reply::Node(at)),
+            _ => Err(AdfError::NoSuchNode),
         }
     }
 }
