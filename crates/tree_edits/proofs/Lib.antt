@@ -9,3 +9,6 @@ pub mod Renames
 pub mod NameCauses
 pub mod UndoLaws
 pub mod NameWritten
+pub mod Rooms
+pub mod Kids
+pub mod RoomCauses

@@ -41,19 +41,19 @@ use Rattle.tree_edits.proofs.Tables.{there, says_none}
 use Rattle.tree_edits.proofs.Nodes.{TheNode, the_node, its_row, header_says, no_break}
 use Rattle.tree_edits.proofs.Siblings.{without, listed_at, none_other, some_other, one_index}
 
-placed_at : (d : DiskPtr) (o : Option ℕ) → place_of d ≡ o → place_value (Some (view d)) ≡ unwrap_or o 0
+pub placed_at : (d : DiskPtr) (o : Option ℕ) → place_of d ≡ o → place_value (Some (view d)) ≡ unwrap_or o 0
 placed_at blank o e = ap (λ (x : Option ℕ). unwrap_or x 0) e
 placed_at (At block offset) o e = ap (λ (x : Option ℕ). unwrap_or x 0) e
 
-none_some : {A : Type 0} (o : Option A) (a : A) → o ≡ None → o ≡ Some a → ⊥
+pub none_some : {A : Type 0} (o : Option A) (a : A) → o ≡ None → o ≡ Some a → ⊥
 none_some o a e f = cc
 
 -- names whose fields are the same are the same
-same_names : (a b : List ℕ) → is_name a ≡ true → is_name b ≡ true → text_field 32 a ≡ text_field 32 b → a ≡ b
+pub same_names : (a b : List ℕ) → is_name a ≡ true → is_name b ≡ true → text_field 32 a ≡ text_field 32 b → a ≡ b
 same_names a b good fine e = sym (name_again a good) ∙ ap trimmed e ∙ name_again b fine
 
 -- tests of which each tells the other are one
-same_test : (a b : Bool) → (a ≡ true → b ≡ true) → (b ≡ true → a ≡ true) → a ≡ b
+pub same_test : (a b : Bool) → (a ≡ true → b ≡ true) → (b ≡ true → a ≡ true) → a ≡ b
 same_test true b to from = sym (to refl)
 same_test false b to from = sym (false_of b (λ t. not_true (from t)))
 

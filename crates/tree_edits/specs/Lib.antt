@@ -4,3 +4,4 @@ pub mod Edits
 pub mod Causes
 pub mod Listed
 pub mod Names
+pub mod Room

@@ -19,7 +19,7 @@ use field_access::write_field;
 use node_reads::{name_field, read_header};
 
 // Whether a header is that of a link.
-fn is_link(header: &NodeHeader) -> bool
+pub(crate) fn is_link(header: &NodeHeader) -> bool
     ensures { result ≡ is_lk header.now.kind }
 {
     matches!(header.kind, DataType::Lk)

@@ -9,6 +9,7 @@ mod label;
 mod listed;
 mod memory;
 mod name;
+mod room;
 mod rows;
 
 pub use label::set_label;
