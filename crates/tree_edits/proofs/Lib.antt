@@ -12,3 +12,4 @@ pub mod NameWritten
 pub mod Rooms
 pub mod Kids
 pub mod RoomCauses
+pub mod PutTwice

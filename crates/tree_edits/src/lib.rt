@@ -5,6 +5,7 @@
 
 #![tactic(auto)]
 
+mod create;
 mod label;
 mod listed;
 mod memory;
