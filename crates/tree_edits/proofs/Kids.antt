@@ -9,7 +9,7 @@ use Rattle.adf_format.specs.Names.{is_name}
 use Rattle.adf_format.specs.FirstFault.{entry_name}
 use Rattle.adf_format.specs.Tree.{Tree, IsAmong, is_among, node_at, children_of, children_at, name_of, name_at, first_named}
 use Rattle.adf_format.specs.Placement.{Placement, TablePart, parts_of}
-use Rattle.adf_format.specs.LaysOut.{HoldsNode, HasTable, fields_of}
+use Rattle.adf_format.specs.LaysOut.{HoldsNode, HasTable, entry_count, fields_of}
 use Rattle.adf_format.proofs.LayoutLaws.{live_parts}
 use Rattle.adf_model.specs.Edits.{has_named}
 use Rattle.adf_model.proofs.Basics.{not_true, not_there, or_right, among_head}
@@ -72,7 +72,10 @@ module _ (image : List ℕ) (core : Core) (serial : ℕ) (row : Row) (found : ro
   pub count_is : table.count ≡ length kids
   count_is = ap (λ (x : ChildTable). x.count) named_by.is ∙ says.children
 
-  place_is : (o : Option TablePart) → own.parts.table ≡ o → table.place ≡ unwrap_or (option_map (λ (x : TablePart). x.place) o) 0
+  pub entries_are : table.entries ≡ entry_count own.parts.table
+  entries_are = ap (λ (x : ChildTable). x.entries) named_by.is ∙ says.entries
+
+  pub place_is : (o : Option TablePart) → own.parts.table ≡ o → table.place ≡ unwrap_or (option_map (λ (x : TablePart). x.place) o) 0
   place_is o e =
       ap (λ (x : ChildTable). x.place) named_by.is
       ∙ placed_at named_by.header.table _ says.table

@@ -117,7 +117,7 @@ module _ (image : List ℕ) (core : Core) (node : NodeId) (label : List ℕ) whe
               wide = m.wide;
               table = table_stays tree p node.serial n.node (record n.node { label = label }) n.is.live refl core.rows.items m.table;
               heap = m.heap;
-              threads = threads_stay image new tree p m.laid_out (range (row.place + 36) 32 ∷ []) (header_own image tree p node.serial n.parts m.laid_out n.is.stands row.place n.at 36 32 (omega arith)) core.heap.work m.heap only m.threads;
+              threads = threads_stay image image new tree p m.laid_out (range (row.place + 36) 32 ∷ []) (header_own image tree p node.serial n.parts m.laid_out n.is.stands row.place n.at 36 32 (omega arith)) core.heap.work m.heap only m.threads;
             };
           }
 

@@ -13,3 +13,13 @@ pub mod Rooms
 pub mod Kids
 pub mod RoomCauses
 pub mod PutTwice
+pub mod Ready
+pub mod JoinedRows
+pub mod Creates
+pub mod Taking
+pub mod CreatesLonger
+pub mod CreateDone
+pub mod CopyLaws
+pub mod Giving
+pub mod TableWritten
+pub mod LongerDone

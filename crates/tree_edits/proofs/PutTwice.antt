@@ -1,14 +1,22 @@
 -- Two texts that are put in their places, one after the other.
-use Rattle.std.proofs.Common.{◌≡◌, ℕ, suc, ◌+◌, arith, subst, List, [], ◌∷◌, length, Option, None, Some}
+use Rattle.std.proofs.Common.{◌≡◌, ℕ, suc, ◌+◌, arith, ap, subst, ◌∙◌, List, [], ◌∷◌, ◌++◌, length, length-append, Option, None, Some}
 use Rattle.std.specs.Prelude.{Result, OnOk}
 use Rattle.std.proofs.lemmas.Result.{on_ok_weaker}
+use Rattle.adf_format.proofs.FieldLaws.{length-field}
 use Rattle.adf_format.specs.declared.types.ExtentKind.{ExtentKind}
 use Rattle.adf_format.specs.Changes.{Writes}
+use Rattle.adf_format.specs.Fields.{field}
+use Rattle.adf_format.specs.Hex.{hex_text}
+use Rattle.adf_format.specs.HeapRule.{grown_entries}
+use Rattle.adf_format.specs.Pointer.{To, pointer_text}
+use Rattle.adf_format.proofs.SpelledParts.{length-pointer_text}
 use Rattle.adf_format.specs.HeapBytes.{ChangesOnly}
 use Rattle.cg_io.specs.Answers.{Then}
 use Rattle.cg_io.specs.Blocks.{Both}
 use Rattle.field_access.specs.Fields.{range}
 use Rattle.tree_laws.specs.MidEdit.{Puts}
+use Rattle.tree_edits.specs.Joined.{table_fields}
+use Rattle.tree_edits.specs.Taken.{FillsWith}
 
 pub next : (m n : ℕ) → m ≡ n → m + 1 ≡ suc n
 next m n e = omega (arith, e)
@@ -34,11 +42,28 @@ put_twice r k l a n b m text other old mid new long one only wrote rest = on_ok_
       puts_there l b m other mid new two rest,
     )
 
-pub put_once : {T E : Type 0} (r : Result T E) (k : ExtentKind) (a n : ℕ) (text wanted : List ℕ) (old new : Option (List ℕ)) → length text ≡ n → text ≡ wanted → OnOk r (Both (Writes a text) old new) → Both (ChangesOnly (range a (length text) ∷ [])) old new → OnOk r (Both (Puts k a n wanted) old new)
-put_once r k a n text wanted old new long is wrote only = on_ok_weaker r (by_held old new only) wrote
+-- a text that fills its place
+pub fill_once : {T E : Type 0} (r : Result T E) (a n : ℕ) (text : List ℕ) (old new : Option (List ℕ)) → length text ≡ n → OnOk r (Both (Writes a text) old new) → Both (ChangesOnly (range a (length text) ∷ [])) old new → OnOk r (Both (FillsWith a n text) old new)
+fill_once r a n text old new long wrote only = on_ok_weaker r (by_held old new only) wrote
   where
-    by_held : (old new : Option (List ℕ)) → Both (ChangesOnly (range a (length text) ∷ [])) old new → Both (Writes a text) old new → Both (Puts k a n wanted) old new
+    by_held : (old new : Option (List ℕ)) → Both (ChangesOnly (range a (length text) ∷ [])) old new → Both (Writes a text) old new → Both (FillsWith a n text) old new
     by_held None None only w = tt
     by_held None (Some new) only w = absurd w
     by_held (Some old) None only w = absurd w
-    by_held (Some old) (Some new) only w = subst (λ t. Puts k a n t old new) is (puts_there k a n text old new w (subst (λ x. ChangesOnly (range a x ∷ []) old new) long only))
+    by_held (Some old) (Some new) only w =
+        let puts = puts_there ExtentKind.Node a n text old new w (subst (λ x. ChangesOnly (range a x ∷ []) old new) long only) in
+        record { stands = subst (λ k. field new a k ≡ text) long w.stands; reaches = λ some. let far = ap length w.stands in let m = length-field new a (length text) in omega (arith, far, m, long, some); only = puts.only }
+
+-- the fields of a table in a header
+pub put_fields : (a place count : ℕ) (text : List ℕ) (old new : Option (List ℕ)) → text ≡ table_fields place count → Both (Writes a text) old new → Both (ChangesOnly (range a (length text) ∷ [])) old new → Both (Puts ExtentKind.Node a 28 (table_fields place count)) old new
+put_fields a place count text old new is = by_held old new
+  where
+    long : length text ≡ 28
+    long = ap length is ∙ length-append (hex_text 8 (suc count) ++ hex_text 8 (grown_entries count)) (pointer_text (To place)) ∙ ap (λ k. 16 + k) (length-pointer_text (To place))
+
+    by_held : (old new : Option (List ℕ)) → Both (Writes a text) old new → Both (ChangesOnly (range a (length text) ∷ [])) old new → Both (Puts ExtentKind.Node a 28 (table_fields place count)) old new
+    by_held None None w only = tt
+    by_held None (Some new) w only = w
+    by_held (Some old) None w only = w
+    by_held (Some old) (Some new) w only =
+        subst (λ t. Puts ExtentKind.Node a 28 t old new) is (puts_there ExtentKind.Node a 28 text old new w (subst (λ k. ChangesOnly (range a k ∷ []) old new) long only))

@@ -179,7 +179,7 @@ module _ (image : List ℕ) (core : Core) (node : NodeId) (name : List ℕ) wher
                 wide = m.wide;
                 table = table_stays tree p node.serial n.node (record n.node { name = name }) n.is.live refl core.rows.items m.table;
                 heap = m.heap;
-                threads = threads_stay image new tree p m.laid_out (ranges tree p m new free w) (own tree p m new free w) core.heap.work m.heap (puts_two (in_header tree p m new free w) (in_entry tree p m new free w)) m.threads;
+                threads = threads_stay image image new tree p m.laid_out (ranges tree p m new free w) (own tree p m new free w) core.heap.work m.heap (puts_two (in_header tree p m new free w) (in_entry tree p m new free w)) m.threads;
               };
             }
 

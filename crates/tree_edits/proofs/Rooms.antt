@@ -26,7 +26,7 @@ use Rattle.tree_edits.specs.declared.rows.Row.{Row}
 use Rattle.tree_edits.specs.Rows.{Means, row_of}
 use Rattle.tree_edits.specs.Edits.{memory_of, Refuses}
 use Rattle.tree_edits.specs.Listed.{NamesTable, TableBreaks, FindsFirst}
-use Rattle.tree_edits.specs.Room.{IsRoomRefusal}
+use Rattle.tree_edits.specs.Room.{HasRoom, IsRoomRefusal}
 use Rattle.tree_edits.proofs.Nodes.{the_node, its_row, header_says, no_node, no_break}
 use Rattle.tree_edits.proofs.Kids.{kids_are, count_is, taken}
 use Rattle.tree_edits.proofs.Parents.{none_some}
@@ -127,6 +127,9 @@ module _ (image : List ℕ) (core : Core) (at : NodeId) (name label : List ℕ) 
                   decided a b c =
                       known tree at name label core.writable (live tree p m) (link_is tree p m ∙ none) may good fine (taken image core at.serial row found tree p m table named_by name good None first)
                       (ap (nat_le (2 ^ 20)) count ∙ a) (ap (nat_le 255) depth ∙ b) (ap (nat_le (2 ^ 48)) (sym m.table.count) ∙ c)
+
+                pub allowed : HasRoom table.count row.depth (length core.rows.items) → (tree : Tree) (p : Placement) → Means image tree p (memory_of core) → file_step core.writable tree edit ≡ Ok (with_new tree at.serial (new_node name label))
+                allowed room tree p m = decided tree p m (is_more (2 ^ 20) table.count room.few) (is_more 255 row.depth room.shallow) (is_more (2 ^ 48) (length core.rows.items) room.left)
 
                 lacks : (e : AdfError) → IsRoomRefusal table.count row.depth (length core.rows.items) e → Refuses edit core e image
                 lacks error.TooManyChildren h = λ tree p m. decided tree p m (is_le (2 ^ 20) table.count h) refl refl

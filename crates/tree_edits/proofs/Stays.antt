@@ -24,9 +24,9 @@ none_of : (n : ℕ) → (0 < n → ⊥) → n ≡ 0
 none_of zero h = refl
 none_of (suc n) h = absurd (h (omega arith))
 
-module _ (image new : List ℕ) (tree : Tree) (p : Placement) (l : LaysOut image tree p) (ranges : List Extent) (own : (b : ℕ) → 0 < cover ranges b → 0 < cover (live_extents tree.wide p) b) where
+module _ (holder image new : List ℕ) (tree : Tree) (p : Placement) (l : LaysOut holder tree p) (ranges : List Extent) (own : (b : ℕ) → 0 < cover ranges b → 0 < cover (live_extents tree.wide p) b) where
   apart : (b : ℕ) → 0 < cover head_extents b + cover p.heap.gaps b → cover ranges b ≡ 0
-  apart b some = none_of (cover ranges b) (λ mine. let live = own b mine in let one = once image tree p [] (from_layout image tree p l) b in omega (arith, some, live, one))
+  apart b some = none_of (cover ranges b) (λ mine. let live = own b mine in let one = once holder tree p [] (from_layout holder tree p l) b in omega (arith, some, live, one))
 
   beside : AreBeside ranges p.heap.gaps
   beside = record {
@@ -58,6 +58,13 @@ module _ (image : List ℕ) (tree : Tree) (p : Placement) (k : ℕ) (at : NodePa
   entry_own i lt b some =
       let r = range_holds (t.place + 16 + 44 * i) 44 b (omega (arith, some)) in
       let held = range_in t.place (table_length t.entries) b (omega (arith, r.0)) (omega (arith, r.1, lt)) in
+      let mine = own_split image tree p [] k at t (from_layout image tree p l) stands has b in
+      let live = own_live image tree p [] k at t (from_layout image tree p l) stands has b in
+      omega (arith, held, mine, live)
+
+  pub table_own : (b : ℕ) → t.place ≤ b → b < t.place + table_length t.entries → 0 < cover (live_extents tree.wide p) b
+  table_own b low high =
+      let held = range_in t.place (table_length t.entries) b low high in
       let mine = own_split image tree p [] k at t (from_layout image tree p l) stands has b in
       let live = own_live image tree p [] k at t (from_layout image tree p l) stands has b in
       omega (arith, held, mine, live)

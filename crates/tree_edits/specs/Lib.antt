@@ -5,3 +5,7 @@ pub mod Causes
 pub mod Listed
 pub mod Names
 pub mod Room
+pub mod Taken
+pub mod Copies
+pub mod Joined
+pub mod Created

@@ -5,14 +5,17 @@
 
 #![tactic(auto)]
 
-mod create;
+mod creation;
+mod join;
 mod label;
 mod listed;
+mod longer;
 mod memory;
 mod name;
 mod room;
 mod rows;
 
+pub use creation::create;
 pub use label::set_label;
 pub use memory::Core;
 pub use name::rename;

@@ -62,6 +62,7 @@ pub(crate) fn find_room<S: Space>(
     ensures room { IfOk result (MayCreate core.now at name.now label.now (S.image space.old)) }
     ensures within { IfOk result (λ parent. parent.table.place
         + table_length parent.table.entries ≤ 2 ^ 44) }
+    ensures few { IfOk result (λ parent. parent.table.count ≤ parent.table.entries) }
     ensures soon { IfOk result (λ parent. ReadsFew (2 * pieces_of parent.table.count + 2)
         (S.state space.old) (S.state space.new)) }
     ensures refused { IfErr result (λ e. IfSome (S.image space.old)

@@ -7,7 +7,7 @@ use Rattle.adf_format.specs.Hex.{hex_text}
 use Rattle.cg_io.specs.Blocks.{Both}
 use Rattle.field_access.specs.Fields.{range}
 use Rattle.tree_edits.proofs.PutTwice.{put_twice, next}
-use Rattle.tree_edits.proofs.create.join_unused.Goals as goal
+use Rattle.tree_edits.proofs.join.join_unused.Goals as goal
 
 pub returns-clause-written : goal.returns-clause-written
 returns-clause-written g c =
