@@ -4,8 +4,8 @@ use std::alloc::Global;
 use std::process::Abort;
 use std::test::Fail;
 
-/// Each edit that only reads and writes.
-const EDITS: [Step; 2] = [
+/// Labels and names, a child in an unused entry, and one in a longer table.
+const EDITS: [Step; 4] = [
     Step::Label {
         node: 1,
         label: b"CGNSBase_t",
@@ -14,11 +14,21 @@ const EDITS: [Step; 2] = [
         node: 2,
         name: b"Zone",
     },
+    Step::Child {
+        of: 0,
+        name: b"D",
+        serial: 6,
+    },
+    Step::Child {
+        of: 0,
+        name: b"E",
+        serial: 7,
+    },
 ];
 
 // Each call of the space in turn fails: the answer is that fault, until no call is left to fail.
 fn each_call_may_fail(rt: &impl Abort, alloc: Global, memory: bool) -> Result<(), Fail> {
-    for k in 1..40 {
+    for k in 1..200 {
         if !run_failing(rt, alloc, k, memory, &EDITS)? {
             return Ok(());
         }

@@ -9,7 +9,7 @@ use file_heap::Heap;
 use std::alloc::Global;
 use std::process::Abort;
 use std::test::Fail;
-use tree_edits::{Core, Row, Rows, rename, set_label};
+use tree_edits::{Core, Row, Rows, create, rename, set_label};
 
 /// An edit, or what is expected where it stands.
 #[derive(Clone, Copy)]
@@ -32,6 +32,19 @@ pub enum Step {
     NoName {
         node: u64,
         name: &'static [u8],
+        error: AdfError,
+    },
+    /// A new node, and its serial.
+    Child {
+        of: u64,
+        name: &'static [u8],
+        serial: u64,
+    },
+    /// A new node that is refused.
+    NoChild {
+        of: u64,
+        name: &'static [u8],
+        label: &'static [u8],
         error: AdfError,
     },
     /// Bytes that are put into the space behind the edits' back.
@@ -91,7 +104,7 @@ fn new_core(
     writable: bool,
 ) -> Result<Core, AdfError> {
     let none = Extents::new(Vec::new(alloc));
-    let heap = Heap::new(alloc, space, &none, END, 1)?;
+    let heap = Heap::new(alloc, space, &none, END, 2)?;
     let mut rows = Vec::new(alloc);
     for row in ROWS {
         if rows.push(row).is_err() {
@@ -120,6 +133,19 @@ fn names(space: &mut Bytes, core: &Core, serial: u64, name: &[u8]) -> Result<(),
     rename(space, core, NodeId { file: 0, serial }, name)
 }
 
+fn creates(
+    space: &mut Bytes,
+    core: &mut Core,
+    serial: u64,
+    name: &[u8],
+    label: &[u8],
+) -> Result<u64, AdfError> {
+    if !core.rows.are_near(core.wide) {
+        return Err(NOT_CALLED);
+    }
+    create(space, core, NodeId { file: 0, serial }, name, label)
+}
+
 // Whether an edit is refused with an error; where it wants memory or a read failed otherwise, that is the answer.
 fn is_refused(answer: Result<(), AdfError>, wanted: AdfError) -> Result<bool, AdfError> {
     match answer {
@@ -131,7 +157,7 @@ fn is_refused(answer: Result<(), AdfError>, wanted: AdfError) -> Result<bool, Ad
 }
 
 // Makes an edit, and tells whether it answered as expected.
-fn make(space: &mut Bytes, core: &Core, step: Step) -> Result<bool, AdfError> {
+fn make(space: &mut Bytes, core: &mut Core, step: Step) -> Result<bool, AdfError> {
     match step {
         Step::Label { node, label } => {
             labels(space, core, node, label)?;
@@ -145,6 +171,18 @@ fn make(space: &mut Bytes, core: &Core, step: Step) -> Result<bool, AdfError> {
             Ok(true)
         }
         Step::NoName { node, name, error } => is_refused(names(space, core, node, name), error),
+        Step::Child { of, name, serial } => {
+            Ok(creates(space, core, of, name, b"Zone_t")? == serial)
+        }
+        Step::NoChild {
+            of,
+            name,
+            label,
+            error,
+        } => match creates(space, core, of, name, label) {
+            Ok(_) => Ok(false),
+            Err(answer) => is_refused(Err(answer), error),
+        },
         Step::Put { at, bytes } => Ok(space.put(at, bytes)),
         _ => Ok(true),
     }
@@ -164,7 +202,7 @@ fn run(
     rt: &impl Abort,
     space: &mut Bytes,
     made: &Bytes,
-    core: &Core,
+    core: &mut Core,
     steps: &[Step],
 ) -> Result<(), AdfError> {
     for (i, step) in steps.iter().enumerate() {
@@ -184,8 +222,8 @@ pub fn run_on(
 ) -> Result<(), Fail> {
     let mut space = four_nodes(alloc, wide)?;
     let made = space.copy(alloc)?;
-    let core = new_core(alloc, &mut space, wide, writable)?;
-    run(rt, &mut space, &made, &core, steps)?;
+    let mut core = new_core(alloc, &mut space, wide, writable)?;
+    run(rt, &mut space, &made, &mut core, steps)?;
     Ok(())
 }
 
@@ -205,11 +243,11 @@ pub fn run_failing(
 ) -> Result<bool, Fail> {
     let mut space = four_nodes(alloc, false)?;
     let made = space.copy(alloc)?;
-    let core = new_core(alloc, &mut space, false, true)?;
+    let mut core = new_core(alloc, &mut space, false, true)?;
     space.calls = 0;
     space.failing = failing;
     space.memory = memory;
-    match run(rt, &mut space, &made, &core, steps) {
+    match run(rt, &mut space, &made, &mut core, steps) {
         Ok(()) => {
             assert!(rt; space.calls < failing);
             Ok(false)
