@@ -8,3 +8,4 @@ pub mod EntryLaws
 pub mod PayloadLaws
 pub mod CopyingLaws
 pub mod PlanLaws
+pub mod NodeLaws

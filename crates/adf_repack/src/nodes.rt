@@ -1,0 +1,67 @@
+//! A node with its table and its data, appended as a packed file has them.
+
+ghost use Rattle.std.specs.Prelude.{◌≡◌, ◌+◌, ◌^◌, ◌<◌, ◌≤◌, length};
+ghost use Rattle.adf_format.specs.Parts.{node_length};
+ghost use Rattle.adf_records.specs.View.{record_of, HasOffsets};
+ghost use Rattle.adf_repack.specs.Writers.{IsWriter, count_in};
+ghost use Rattle.adf_repack.specs.Places.{room_of};
+ghost use Rattle.adf_repack.specs.Sources.{IsReady};
+ghost use Rattle.adf_repack.specs.Copies.{Copies};
+ghost use Rattle.adf_repack.specs.Plans.{IsPlan, shape_at, header_at, copied_node, BreaksParts};
+
+use crate::data::copy_contents;
+use crate::headers::{dimensions_fit, dimensions_within, packed_header};
+use crate::places::{header_length, table_room};
+use crate::plan::Plan;
+use crate::puts::put_header;
+use crate::source::Page;
+use crate::tables::copy_children;
+use crate::writer::BlockWriter;
+use adf_model::AdfError;
+use adf_records::NodeHeader;
+use cg_io::{Blocks, Device};
+use layout_lint::NodePlace;
+
+/// Appends a node whose header was read at a place: the header, the table of its children and its data.
+pub fn copy_parts<B: Blocks, E: Device>(
+    blocks: &mut B,
+    page: &mut Page,
+    writer: &mut BlockWriter<E>,
+    header: &NodeHeader,
+    place: u64,
+    nodes: &[NodePlace],
+    plan: &Plan,
+    number: usize,
+) -> Result<(), AdfError>
+    requires ready { IsReady (B.is_sound blocks.old) (B.state blocks.old).held page.old }
+    requires sound { IsWriter E.state writer.old }
+    requires offsets { HasOffsets header.now }
+    requires near { place + node_length header.now.wide ≤ 2 ^ 44 }
+    requires plan { IsPlan nodes.now plan.now }
+    requires number { number < length nodes.now }
+    requires stands { count_in writer.old ≡ header_at plan.now number }
+    ensures { Copies B.is_sound B.state E.state
+        (BreaksParts (B.state blocks.old).held header.now.wide nodes.now plan.now number place
+        (record_of header.now)) (room_of plan.now.wide (shape_at plan.now number))
+        (λ image. copied_node image nodes.now plan.now number (record_of header.now))
+        blocks.old blocks.new page.new writer.old writer.new result }
+{
+    let values = dimensions_within(header);
+    if !dimensions_fit(&values, plan.wide) {
+        return Err(AdfError::Layout { rule: 21, place });
+    }
+    let shape = plan.shape(number);
+    let at = plan.header(number);
+    let packed = packed_header(header, &values, plan.wide, at, shape);
+    match put_header(writer, &packed) {
+        Ok(()) => {}
+        Err(error) => return Err(error),
+    }
+    let table = at + header_length(plan.wide);
+    match copy_children(blocks, page, writer, header, nodes, plan, number, table) {
+        Ok(()) => {}
+        Err(error) => return Err(error),
+    }
+    let chunk = table + table_room(shape.children);
+    copy_contents(blocks, page, writer, header, place, shape.size, chunk)
+}
