@@ -1,6 +1,7 @@
 -- Copies behind others.
 use Rattle.std.proofs.Common.{◌≡◌, ℕ, ◌∙◌, ap, arith, refl, sym, [], ◌+◌, ◌≤◌, List, ◌++◌, length, Result, Ok, Err, inl, inr, ◌⊎◌, Some}
 use Rattle.cg_io.specs.Device.{DeviceState}
+use Rattle.adf_model.specs.Counts.{OnlyReads}
 use Rattle.adf_model.specs.declared.error.AdfError.{AdfError}
 use Rattle.adf_repack.specs.declared.source.Page.{Page}
 use Rattle.adf_repack.specs.declared.writer.BlockWriter.{BlockWriter}
@@ -175,3 +176,38 @@ copies_as is_sound source target broken n m f g a b p s t (Err e) size same h = 
   lost = h.lost;
   cause = h.cause;
 }
+
+-- a copy behind a read, in other words
+module _ {B E : Type 0} (is_sound : B → Type 0) (source : B → DeviceState) (target : E → DeviceState) (broken wider : ℕ → ℕ → Type 0) (all : (rule place : ℕ) → broken rule place → wider rule place) (n : ℕ)
+    (f g : List ℕ → List ℕ) (a b c : B) (q : Page) (s u : BlockWriter E) (read : OnlyReads (source a) (source b)) (same : (image : List ℕ) → (source a).held ≡ Some image → f image ≡ g image) where
+  pub copies_behind : (r : Result Unit AdfError) → Copies is_sound source target broken n f b c q s u r → Copies is_sound source target wider n g a c q s u r
+  copies_behind (Ok x) h = record {
+    ready = h.ready;
+    reads = reads_then (source a) (source b) (source c) read h.reads;
+    sound = h.sound;
+    appended = λ image e. h.appended image (read.held ∙ e) ∙ ap (with_more (appended_in target s)) (same image e);
+    count = h.count;
+    wrote = h.wrote;
+    effect = h.effect;
+    later = h.later;
+    lost = h.lost;
+    cause = tt;
+  }
+  copies_behind (Err e) h = record {
+    ready = h.ready;
+    reads = reads_then (source a) (source b) (source c) read h.reads;
+    sound = tt;
+    appended = tt;
+    count = tt;
+    wrote = tt;
+    effect = h.effect;
+    later = h.later;
+    lost = h.lost;
+    cause = elim h.cause [
+      | inl unread ↦ inl (unread_then (source a) (source b) (source c) e read unread)
+      | inr other ↦ inr (elim other [
+        | inl unwritten ↦ inl unwritten
+        | inr breaks ↦ inr (broken_wider is_sound source target broken wider all e breaks)
+      ])
+    ];
+  }

@@ -1,11 +1,16 @@
 -- The parts of a node in a copy.
-use Rattle.std.proofs.Common.{◌≡◌, ℕ, zero, suc, ◌+◌, ◌-◌, ◌*◌, ◌<◌, ◌≤◌, ◌^◌, ◌∙◌, refl, sym, subst, ap, arith, List, ◌++◌, length, take, get_or, replicate, Bool, true, false, inl, inr, Option}
+use Rattle.std.proofs.Common.{◌≡◌, ℕ, zero, suc, ◌+◌, ◌-◌, ◌*◌, ◌<◌, ◌≤◌, ◌^◌, ◌∙◌, refl, sym, subst, ap, arith, List, ◌++◌, length, take, get_or, replicate, Bool, true, false, inl, inr, Option, None, Some, IfSome}
 use Rattle.std.specs.List.{Contains}
 use Rattle.std.proofs.lemmas.Bool.{cases_lt}
 use Rattle.std.proofs.lemmas.List.{get_or_append_left, get_or-append_right}
 use Rattle.std.proofs.lemmas.List.Elements.{Contains-get_or}
 use Rattle.adf_format.specs.Parts.{node_length, dimension_digits}
-use Rattle.adf_format.specs.Records.{NodeRecord, node_text}
+use Rattle.adf_format.specs.Records.{NodeRecord, node_text, node_record}
+use Rattle.adf_records.specs.declared.NodeHeader.{NodeHeader}
+use Rattle.adf_records.specs.View.{record_of}
+use Rattle.cg_io.specs.Device.{bytes_at}
+use Rattle.node_reads.specs.Reads.{ReadAt}
+use Rattle.node_reads.specs.Headers.{IsHeader}
 use Rattle.layout_lint.specs.declared.verdict.NodePlace.{NodePlace}
 use Rattle.adf_repack.specs.declared.places.NodeShape.{NodeShape}
 use Rattle.adf_repack.specs.declared.plan.Plan.{Plan}
@@ -13,7 +18,7 @@ use Rattle.adf_repack.specs.Families.{children_of}
 use Rattle.adf_repack.specs.Places.{table_room}
 use Rattle.adf_repack.specs.Copies.{copied_record, numbers_in}
 use Rattle.adf_repack.specs.Payloads.{copied_data, BreaksContents}
-use Rattle.adf_repack.specs.Plans.{shape_at, header_at, copied_children, copied_node, table_in, HasLong, BreaksParts}
+use Rattle.adf_repack.specs.Plans.{shape_at, header_at, copied_children, copied_node, table_in, HasLong, BreaksParts, BreaksNode, old_place, record_at}
 
 all_zeros : (n k : ℕ) → ◌≡◌ {A = ℕ} (get_or (replicate n 0) k 0) 0
 all_zeros zero k = refl
@@ -53,3 +58,19 @@ pub contents_broken : (held again : Option (List ℕ)) (wide : Bool) (nodes : Li
     → (rule at : ℕ) → BreaksContents again wide r place shape.size rule at → BreaksParts held wide nodes plan k place r rule at
 contents_broken held again wide nodes plan k place r shape same here rule at b =
     inr (inr (subst (λ (s : NodeShape). BreaksContents held wide r place s.size rule at) here (subst (λ (o : Option (List ℕ)). BreaksContents o wide r place shape.size rule at) same b)))
+
+-- what a header says that was read
+pub header_said : (held : Option (List ℕ)) (wide : Bool) (place p : ℕ) (h : NodeHeader) → p ≡ place → ReadAt held p (node_length wide) (IsHeader wide p None h) → IfSome held (λ image. record_of h ≡ record_at image wide place)
+header_said None wide place p h is read = tt
+header_said (Some image) wide place p h is read =
+    read.says.says ∙ ap (node_record wide) (read.given ∙ ap (bytes_at image p) read.long ∙ ap (λ (k : ℕ). bytes_at image k (node_length wide)) is)
+
+pub node_broken : (held again : Option (List ℕ)) (wide w : Bool) (nodes : List NodePlace) (plan : Plan) (k p : ℕ) (r : NodeRecord) → again ≡ held → w ≡ wide → p ≡ old_place nodes k
+    → IfSome held (λ image. r ≡ record_at image wide (old_place nodes k)) → (rule at : ℕ) → BreaksParts again w nodes plan k p r rule at → BreaksNode held wide nodes plan k rule at
+node_broken held again wide w nodes plan k p r same is here said rule at b =
+    inr (record {
+      header = r;
+      read = said;
+      so = subst (λ (q : ℕ). BreaksParts held wide nodes plan k q r rule at) here
+          (subst (λ (v : Bool). BreaksParts held v nodes plan k p r rule at) is (subst (λ (o : Option (List ℕ)). BreaksParts o w nodes plan k p r rule at) same b));
+    })

@@ -1,7 +1,10 @@
 -- What a copy is made of, before it is written.
-use Rattle.std.specs.Prelude.{◌≡◌, ◌⊎◌, ℕ, ◌+◌, ◌*◌, ◌^◌, ◌<◌, ◌≤◌, Bool, List, [], ◌∷◌, ◌++◌, length, take, get_or, Option, None, Some}
+use Rattle.std.specs.Prelude.{◌≡◌, ◌⊎◌, ℕ, ◌+◌, ◌*◌, ◌^◌, ◌<◌, ◌≤◌, Bool, List, [], ◌∷◌, ◌++◌, length, take, get_or, slice_get, Option, None, Some, IfSome}
 use Rattle.adf_format.specs.Pointer.{To, place_value}
-use Rattle.adf_format.specs.Records.{NodeRecord, SubNodes, head_text, end_tag, node_text}
+use Rattle.adf_format.specs.Records.{NodeRecord, SubNodes, head_text, end_tag, node_text, node_record}
+use Rattle.cg_io.specs.Device.{bytes_at}
+use Rattle.node_reads.specs.Reads.{Breaks}
+use Rattle.node_reads.specs.Headers.{header_rows}
 use Rattle.adf_format.specs.Parts.{node_length, dimension_digits}
 use Rattle.std.specs.List.{Contains}
 use Rattle.layout_lint.specs.declared.verdict.NodePlace.{NodePlace}
@@ -69,3 +72,31 @@ abbrev pub BreaksParts : Option (List ℕ) → Bool → List NodePlace → Plan 
 BreaksParts held wide nodes plan k place r rule at =
     ((rule ≡ 21) × (at ≡ place) × HasLong plan.wide r)
     ⊎ (BreaksNames (table_in r) nodes (children_of nodes k) rule at ⊎ BreaksContents held wide r place (shape_at plan k).size rule at)
+
+-- ---- by the place of the old header
+
+abbrev pub place_in : Option NodePlace → ℕ
+place_in None = 0
+place_in (Some n) = n.place
+
+abbrev pub old_place : List NodePlace → ℕ → ℕ
+old_place nodes k = place_in (slice_get nodes k)
+
+-- what the header at a place says
+abbrev pub record_at : List ℕ → Bool → ℕ → NodeRecord
+record_at image wide place = node_record wide (bytes_at image place (node_length wide))
+
+abbrev pub copied_at : List ℕ → Bool → List NodePlace → Plan → ℕ → List ℕ
+copied_at image wide nodes plan k = copied_node image nodes plan k (record_at image wide (old_place nodes k))
+
+-- something holds of what the header at a place says
+pub record SaysAt (held : Option (List ℕ)) (wide : Bool) (place : ℕ) (P : NodeRecord → Type 0) : Type 0 where
+  pub header : NodeRecord
+  pub read : IfSome held (λ image. header ≡ record_at image wide place)
+  pub so : P header
+
+-- rules 15 to 21 of its header, or a rule of what the header leads to
+abbrev pub BreaksNode : Option (List ℕ) → Bool → List NodePlace → Plan → ℕ → ℕ → ℕ → Type 0
+BreaksNode held wide nodes plan k rule at =
+    Breaks held (old_place nodes k) (node_length wide) (header_rows wide (old_place nodes k) None) rule at
+    ⊎ SaysAt held wide (old_place nodes k) (λ r. BreaksParts held wide nodes plan k (old_place nodes k) r rule at)

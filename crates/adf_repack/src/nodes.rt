@@ -7,13 +7,14 @@ ghost use Rattle.adf_repack.specs.Writers.{IsWriter, count_in};
 ghost use Rattle.adf_repack.specs.Places.{room_of};
 ghost use Rattle.adf_repack.specs.Sources.{IsReady};
 ghost use Rattle.adf_repack.specs.Copies.{Copies};
-ghost use Rattle.adf_repack.specs.Plans.{IsPlan, shape_at, header_at, copied_node, BreaksParts};
+ghost use Rattle.adf_repack.specs.Plans.{IsPlan, shape_at, header_at, copied_node, BreaksParts, old_place, copied_at, BreaksNode};
 
 use crate::data::copy_contents;
 use crate::headers::{dimensions_fit, dimensions_within, packed_header};
 use crate::places::{header_length, table_room};
 use crate::plan::Plan;
 use crate::puts::put_header;
+use crate::reads::read_header;
 use crate::source::Page;
 use crate::tables::copy_children;
 use crate::writer::BlockWriter;
@@ -64,4 +65,42 @@ pub fn copy_parts<B: Blocks, E: Device>(
     }
     let chunk = table + table_room(shape.children);
     copy_contents(blocks, page, writer, header, place, shape.size, chunk)
+}
+
+// Where the old header of a node stands.
+fn old_place(nodes: &[NodePlace], number: usize) -> u64
+    requires { number < length nodes.now }
+    ensures { result ≡ old_place nodes.now number }
+{
+    nodes[number].place
+}
+
+/// Appends a node, which is read by its place in the file: the header, the table of its children and its data.
+pub fn copy_node<B: Blocks, E: Device>(
+    blocks: &mut B,
+    page: &mut Page,
+    writer: &mut BlockWriter<E>,
+    wide: bool,
+    nodes: &[NodePlace],
+    plan: &Plan,
+    number: usize,
+) -> Result<(), AdfError>
+    requires ready { IsReady (B.is_sound blocks.old) (B.state blocks.old).held page.old }
+    requires sound { IsWriter E.state writer.old }
+    requires plan { IsPlan nodes.now plan.now }
+    requires number { number < length nodes.now }
+    requires near { old_place nodes.now number + node_length wide ≤ 2 ^ 44 }
+    requires stands { count_in writer.old ≡ header_at plan.now number }
+    ensures { Copies B.is_sound B.state E.state
+        (BreaksNode (B.state blocks.old).held wide nodes.now plan.now number)
+        (room_of plan.now.wide (shape_at plan.now number))
+        (λ image. copied_at image wide nodes.now plan.now number)
+        blocks.old blocks.new page.new writer.old writer.new result }
+{
+    let place = old_place(nodes, number);
+    let header = match read_header(blocks, page, wide, place) {
+        Ok(header) => header,
+        Err(error) => return Err(error),
+    };
+    copy_parts(blocks, page, writer, &header, place, nodes, plan, number)
 }

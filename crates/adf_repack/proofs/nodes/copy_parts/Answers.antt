@@ -34,8 +34,12 @@ returns-then-not-dimensions_fit g c =
         rule = 21;
         place = c.args.place;
         is = refl;
-        so = inl (refl, refl, long_dimension c.args.plan.now.wide (record_of h) c.dimensions_within-values.result
-            (rw (sym (numbers_are h)) c.dimensions_within-values.ensures) (c.dimensions_fit.ensures.long (search rules)));
+        so = inl (
+          refl,
+          refl,
+          long_dimension c.args.plan.now.wide (record_of h) c.dimensions_within-values.result
+              (rw (sym (numbers_are h)) c.dimensions_within-values.ensures) (c.dimensions_fit.ensures.long (search rules)),
+        );
       }));
     }
 
