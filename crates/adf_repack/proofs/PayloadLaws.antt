@@ -41,14 +41,16 @@ range_more : (a n : ℕ) → range_with_len a (suc n) ≡ range_with_len a n ++ 
 range_more a zero = ap (λ k. k ∷ []) (omega arith)
 range_more a (suc n) = ap (λ l. a ∷ l) (range_more (a + 1) n ∙ ap (λ k. range_with_len (a + 1) n ++ k ∷ []) (omega arith))
 
--- and one more
-until_more : (image : List ℕ) (h : NodeRecord) (n : ℕ) → payloads_until image h (n + 1) ≡ payloads_until image h n ++ payload_at image (chunk_at image h n)
-until_more image h n =
-    let f : ℕ → List ℕ = λ i. payload_at image (chunk_at image h i) in
+-- what is made of the numbers up to one, and of one more
+pub flat_more : (f : ℕ → List ℕ) (n : ℕ) → flat_map f (range_with_len 0 (n + 1)) ≡ flat_map f (range_with_len 0 n) ++ f n
+flat_more f n =
     let next : n + 1 ≡ suc n = omega arith in
     let here : 0 + n ≡ n = omega arith in
-    ap (payloads_until image h) next ∙ ap (flat_map f) (range_more 0 n) ∙ flat_map-append f (range_with_len 0 n) ((0 + n) ∷ [])
+    ap (λ k. flat_map f (range_with_len 0 k)) next ∙ ap (flat_map f) (range_more 0 n) ∙ flat_map-append f (range_with_len 0 n) ((0 + n) ∷ [])
     ∙ ap (λ l. flat_map f (range_with_len 0 n) ++ l) (append-nil (f (0 + n))) ∙ ap (λ k. flat_map f (range_with_len 0 n) ++ f k) here
+
+until_more : (image : List ℕ) (h : NodeRecord) (n : ℕ) → payloads_until image h (n + 1) ≡ payloads_until image h n ++ payload_at image (chunk_at image h n)
+until_more image h n = flat_more (λ i. payload_at image (chunk_at image h i)) n
 
 take_bytes_at : (image : List ℕ) (place len m k : ℕ) → k ≡ min m len → take m (bytes_at image place len) ≡ bytes_at image place k
 take_bytes_at image place len m k is = elim (cases_lt m len) [

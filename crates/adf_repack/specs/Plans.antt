@@ -6,12 +6,13 @@ use Rattle.cg_io.specs.Device.{bytes_at}
 use Rattle.node_reads.specs.Reads.{Breaks}
 use Rattle.node_reads.specs.Headers.{header_rows}
 use Rattle.adf_format.specs.Parts.{node_length, dimension_digits}
-use Rattle.std.specs.List.{Contains}
+use Rattle.std.specs.List.{Contains, flat_map, sum_by}
+use Rattle.adf_format.specs.FirstFault.{count_up}
 use Rattle.layout_lint.specs.declared.verdict.NodePlace.{NodePlace}
 use Rattle.adf_repack.specs.declared.places.NodeShape.{NodeShape}
 use Rattle.adf_repack.specs.declared.plan.Plan.{Plan}
 use Rattle.adf_repack.specs.Families.{children_of, IsChain}
-use Rattle.adf_repack.specs.Places.{place_of, length_of, table_room}
+use Rattle.adf_repack.specs.Places.{place_of, length_of, table_room, room_of}
 use Rattle.adf_repack.specs.Copies.{copied_entries, copied_record, numbers_in, BreaksNames}
 use Rattle.adf_repack.specs.Payloads.{copied_data, BreaksContents}
 
@@ -100,3 +101,19 @@ abbrev pub BreaksNode : Option (List ℕ) → Bool → List NodePlace → Plan �
 BreaksNode held wide nodes plan k rule at =
     Breaks held (old_place nodes k) (node_length wide) (header_rows wide (old_place nodes k) None) rule at
     ⊎ SaysAt held wide (old_place nodes k) (λ r. BreaksParts held wide nodes plan k (old_place nodes k) r rule at)
+
+-- ---- all nodes
+
+-- the first nodes, one behind the other
+abbrev pub copied_until : List ℕ → Bool → List NodePlace → Plan → ℕ → List ℕ
+copied_until image wide nodes plan n = flat_map (λ k. copied_at image wide nodes plan k) (count_up n)
+
+-- how many bytes they have
+abbrev pub room_until : Plan → ℕ → ℕ
+room_until plan n = sum_by (room_of plan.wide) (take n plan.shapes.items)
+
+-- a rule of one of the nodes is broken
+pub record BreaksOne (held : Option (List ℕ)) (wide : Bool) (nodes : List NodePlace) (plan : Plan) (rule at : ℕ) : Type 0 where
+  pub number : ℕ
+  pub within : number < length nodes
+  pub breaks : BreaksNode held wide nodes plan number rule at

@@ -24,7 +24,7 @@ pub use families::{Families, families_of};
 pub use headers::{
     copied_is_packed, dimensions_fit, dimensions_within, file_header, no_lists, packed_header,
 };
-pub use nodes::{copy_node, copy_parts};
+pub use nodes::{copy_node, copy_nodes, copy_parts};
 pub use payloads::{Payload, read_chunk, read_payload};
 pub use places::{NodeShape, PackedPlaces, check_length, length_is_packed, packed_places};
 pub use plan::Plan;

@@ -1,13 +1,13 @@
 //! A node with its table and its data, appended as a packed file has them.
 
-ghost use Rattle.std.specs.Prelude.{◌≡◌, ◌+◌, ◌^◌, ◌<◌, ◌≤◌, length};
+ghost use Rattle.std.specs.Prelude.{◌≡◌, ◌+◌, ◌^◌, ◌<◌, ◌≤◌, ℕ, length};
 ghost use Rattle.adf_format.specs.Parts.{node_length};
 ghost use Rattle.adf_records.specs.View.{record_of, HasOffsets};
 ghost use Rattle.adf_repack.specs.Writers.{IsWriter, count_in};
 ghost use Rattle.adf_repack.specs.Places.{room_of};
 ghost use Rattle.adf_repack.specs.Sources.{IsReady};
 ghost use Rattle.adf_repack.specs.Copies.{Copies};
-ghost use Rattle.adf_repack.specs.Plans.{IsPlan, shape_at, header_at, copied_node, BreaksParts, old_place, copied_at, BreaksNode};
+ghost use Rattle.adf_repack.specs.Plans.{IsPlan, shape_at, header_at, copied_node, BreaksParts, old_place, copied_at, copied_until, room_until, BreaksNode, BreaksOne};
 
 use crate::data::copy_contents;
 use crate::headers::{dimensions_fit, dimensions_within, packed_header};
@@ -103,4 +103,34 @@ pub fn copy_node<B: Blocks, E: Device>(
         Err(error) => return Err(error),
     };
     copy_parts(blocks, page, writer, &header, place, nodes, plan, number)
+}
+
+/// Appends all nodes, in their order, behind the header of the file and its free table.
+pub fn copy_nodes<B: Blocks, E: Device>(
+    blocks: &mut B,
+    page: &mut Page,
+    writer: &mut BlockWriter<E>,
+    wide: bool,
+    nodes: &[NodePlace],
+    plan: &Plan,
+) -> Result<(), AdfError>
+    requires ready { IsReady (B.is_sound blocks.old) (B.state blocks.old).held page.old }
+    requires sound { IsWriter E.state writer.old }
+    requires plan { IsPlan nodes.now plan.now }
+    requires near { (k : ℕ) → k < length nodes.now
+        → old_place nodes.now k + node_length wide ≤ 2 ^ 44 }
+    requires begins { count_in writer.old ≡ 266 }
+    ensures { Copies B.is_sound B.state E.state
+        (BreaksOne (B.state blocks.old).held wide nodes.now plan.now)
+        (room_until plan.now (length nodes.now))
+        (λ image. copied_until image wide nodes.now plan.now (length nodes.now))
+        blocks.old blocks.new page.new writer.old writer.new result }
+{
+    for number in 0..nodes.len() {
+        match copy_node(blocks, page, writer, wide, nodes, plan, number) {
+            Ok(()) => {}
+            Err(error) => return Err(error),
+        }
+    }
+    Ok(())
 }
