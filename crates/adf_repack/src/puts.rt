@@ -1,6 +1,6 @@
 //! Parts of a packed file, appended to it.
 
-ghost use Rattle.std.specs.Prelude.{◌≡◌, ◌+◌, ◌-◌, ◌*◌, ◌^◌, ◌≤◌, ◌<◌, ◌++◌, length, max, replicate};
+ghost use Rattle.std.specs.Prelude.{◌≡◌, ◌+◌, ◌-◌, ◌*◌, ◌^◌, ◌≤◌, ◌<◌, ◌++◌, length, max, replicate, OnOk};
 ghost use Rattle.adf_format.specs.Parts.{node_length};
 ghost use Rattle.adf_format.specs.Pointer.{Blank, To};
 ghost use Rattle.adf_format.specs.Records.{SubNodes, Data, header_text, free_table_text, node_text, head_text, end_tag, entry_text};
@@ -39,8 +39,10 @@ pub fn put_head<E: Device>(
     requires sound { IsWriter E.state writer.old }
     requires within { count_in writer.old + 266 ≤ 2 ^ 44 }
     requires near { end < 2 ^ 44 }
-    ensures { Appends E.state (header_text (packed_header_of wide format end)
+    ensures appends { Appends E.state (header_text (packed_header_of wide format end)
         ++ free_table_text (replicate 6 Blank)) writer.old writer.new result }
+    ensures long { OnOk result (length (header_text (packed_header_of wide format end)
+        ++ free_table_text (replicate 6 Blank)) ≡ 266) }
 {
     match put(writer, &encode_header(&file_header(wide, format, end))) {
         Ok(()) => {}
