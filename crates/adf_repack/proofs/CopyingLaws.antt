@@ -1,5 +1,5 @@
 -- Copies behind others.
-use Rattle.std.proofs.Common.{◌≡◌, ℕ, ◌∙◌, ap, arith, refl, sym, [], ◌+◌, ◌≤◌, List, ◌++◌, length, Result, Ok, Err, inl, inr, ◌⊎◌, Some}
+use Rattle.std.proofs.Common.{◌≡◌, ℕ, ◌∙◌, ap, arith, refl, sym, [], ◌+◌, ◌≤◌, List, ◌++◌, length, Result, Ok, Err, inl, inr, Some}
 use Rattle.cg_io.specs.Device.{DeviceState}
 use Rattle.adf_model.specs.Counts.{OnlyReads}
 use Rattle.adf_model.specs.declared.error.AdfError.{AdfError}
@@ -7,7 +7,7 @@ use Rattle.adf_repack.specs.declared.source.Page.{Page}
 use Rattle.adf_repack.specs.declared.writer.BlockWriter.{BlockWriter}
 use Rattle.adf_repack.specs.Sources.{IsReady, IsUnread, IsBroken}
 use Rattle.adf_repack.specs.Writers.{IsWriter, with_more, count_in, blocks_in, state_under, appended_in}
-use Rattle.adf_repack.specs.Copies.{Appends, Copies, IsUnwritten}
+use Rattle.adf_repack.specs.Copies.{Appends, Copies}
 use Rattle.adf_repack.proofs.WriterLaws.{more_then, more_none, writes_then, writes_none}
 use Rattle.adf_repack.proofs.AppendLaws.{only_then, unwritten_then}
 use Rattle.adf_repack.proofs.SourceLaws.{reads_then, reads_none}

@@ -1,4 +1,4 @@
-use Rattle.std.proofs.Common.{◌≡◌, ◌+◌, max, subst, sym, arith, ℕ, Option, Some}
+use Rattle.std.proofs.Common.{◌≡◌, ◌+◌, max, subst, sym, arith, ℕ, Option}
 use Rattle.adf_records.specs.View.{record_of}
 use Rattle.adf_repack.specs.Places.{data_room}
 use Rattle.adf_repack.specs.Copies.{Copies}

@@ -1,7 +1,7 @@
 use Rattle.std.proofs.Common.{◌≡◌, ◌∙◌, ◌<◌, ◌+◌, ap, refl, sym, Some, arith, subst, Option, IfSome, List, inl, inr, ℕ, length, take}
 use Rattle.cg_io.specs.Device.{bytes_at}
 use Rattle.adf_records.specs.View.{record_of}
-use Rattle.adf_repack.specs.Payloads.{payloads_until, payloads_of, payload_length, chunk_at, IsShort}
+use Rattle.adf_repack.specs.Payloads.{payloads_until, payloads_of, payload_length, chunk_at}
 use Rattle.adf_repack.specs.Writers.{appended_in, with_more}
 use Rattle.adf_repack.proofs.WriterLaws.{writes_then}
 use Rattle.adf_repack.proofs.AppendLaws.{only_then}

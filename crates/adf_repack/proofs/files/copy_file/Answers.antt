@@ -1,4 +1,4 @@
-use Rattle.std.proofs.Common.{◌≡◌, ◌-◌, ◌++◌, ℕ, List, length, replicate, Ok}
+use Rattle.std.proofs.Common.{◌-◌, ◌++◌, ℕ, List, length, replicate, Ok}
 use Rattle.adf_format.specs.Pointer.{Blank}
 use Rattle.adf_format.specs.Records.{header_text, free_table_text}
 use Rattle.packed_laws.specs.PackedForm.{packed_header_of}

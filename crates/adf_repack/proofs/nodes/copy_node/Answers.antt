@@ -1,4 +1,4 @@
-use Rattle.std.proofs.Common.{◌≡◌, ap, ℕ, List, Some, IfSome}
+use Rattle.std.proofs.Common.{◌≡◌, ap, IfSome}
 use Rattle.adf_records.specs.View.{record_of}
 use Rattle.adf_repack.specs.Places.{room_of}
 use Rattle.adf_repack.specs.Plans.{shape_at, copied_node, copied_at, old_place, record_at, BreaksParts, BreaksNode}

@@ -1,4 +1,4 @@
-use Rattle.std.proofs.Common.{◌≡◌, Ok}
+use Rattle.std.proofs.Common.{Ok}
 use Rattle.adf_repack.specs.Copies.{Copies}
 use Rattle.adf_repack.specs.Plans.{copied_until, room_until, BreaksOne}
 use Rattle.adf_repack.proofs.nodes.copy_nodes.Given as goal

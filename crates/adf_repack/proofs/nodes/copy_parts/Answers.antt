@@ -4,13 +4,12 @@ use Rattle.adf_format.specs.Records.{node_text}
 use Rattle.adf_records.specs.View.{record_of}
 use Rattle.layout_lint.specs.Nodes.{table_of}
 use Rattle.adf_repack.specs.declared.places.NodeShape.{NodeShape}
-use Rattle.adf_repack.specs.Writers.{count_in}
 use Rattle.adf_repack.specs.Families.{children_of}
 use Rattle.adf_repack.specs.Places.{room_of, table_room, data_room}
 use Rattle.adf_repack.specs.Copies.{BreaksNames}
 use Rattle.adf_repack.specs.Payloads.{copied_data, BreaksContents}
 use Rattle.adf_repack.specs.Plans.{shape_at, header_at, copied_children, copied_node, BreaksParts}
-use Rattle.adf_repack.proofs.CopyLaws.{numbers_are, limited_is}
+use Rattle.adf_repack.proofs.CopyLaws.{numbers_are}
 use Rattle.adf_repack.proofs.SourceLaws.{reads_none}
 use Rattle.adf_repack.proofs.PlanLaws.{fits}
 use Rattle.adf_repack.proofs.CopyingLaws.{copies_same, copies_then, copies_wider, copies_as}

@@ -5,7 +5,7 @@ use Rattle.layout_lint.specs.Nodes.{table_of}
 use Rattle.adf_repack.specs.declared.places.NodeShape.{NodeShape}
 use Rattle.adf_repack.specs.Families.{children_of}
 use Rattle.adf_repack.specs.Copies.{Appends, Copies, BreaksNames, copied_entries}
-use Rattle.adf_repack.specs.Plans.{shape_at, copied_table}
+use Rattle.adf_repack.specs.Plans.{copied_table}
 use Rattle.adf_repack.proofs.PlanLaws.{header_near}
 use Rattle.adf_repack.proofs.CopyingLaws.{copies_same, copies_then}
 use Rattle.adf_repack.proofs.tables.copy_table.Goals as goal
