@@ -1,6 +1,6 @@
 -- What is written of a node, by its header as it was read, and what appending it does.
 use Rattle.std.specs.List.{Contains}
-use Rattle.std.specs.Prelude.{◌≡◌, ◌⊎◌, ℕ, ◌+◌, ◌*◌, ◌==◌, ◌≤◌, Bool, not, cond, List, [], unwrap_or, slice_index_or, length, take, is_some, map, slice_get, get_or, Option, None, Some, Result, OnOk, IfErr}
+use Rattle.std.specs.Prelude.{◌≡◌, ◌⊎◌, ℕ, ◌+◌, ◌*◌, ◌==◌, ◌≤◌, Bool, not, cond, List, [], unwrap_or, slice_index_or, length, take, is_some, map, slice_get, get_or, option_map, Option, None, Some, Result, OnOk, IfErr}
 use Rattle.adf_format.specs.Fields.{text_field}
 use Rattle.adf_format.specs.Pointer.{Pointer, Blank, To}
 use Rattle.adf_format.specs.Parts.{node_length}
@@ -20,7 +20,7 @@ use Rattle.adf_model.specs.Counts.{OnlyReads}
 use Rattle.adf_repack.specs.declared.source.Page.{Page}
 use Rattle.adf_repack.specs.Sources.{IsReady, IsUnread, IsBroken, IsBeyond}
 use Rattle.adf_repack.specs.Places.{table_room, shape_of}
-use Rattle.adf_repack.specs.Writers.{IsWriter, appended_in, with_more, count_in, blocks_in, state_under, WritesBlocks, OnlyWrites}
+use Rattle.adf_repack.specs.Writers.{IsWriter, appended_in, with_more, count_in, blocks_in, state_under, WritesBlocks, OnlyWrites, blocks_for, in_blocks}
 
 -- ---- a header
 
@@ -116,3 +116,16 @@ pub record BreaksNames (table : ℕ) (nodes : List NodePlace) (children : List �
   pub child : ℕ
   pub one : Contains children child
   pub breaks : IsBeyond (table + 16 + 44 * position_in (slice_get nodes child)) rule at
+
+-- All that was appended and these bytes of the file stand on the device, with zeros up to the end of the last block; or a read or a write failed, or
+-- what was read breaks a rule. The file is only read.
+pub record Writes {B E : Type 0} (is_sound : B → Type 0) (source : B → DeviceState) (target : E → DeviceState) (broken : ℕ → ℕ → Type 0) (n : ℕ) (text : List ℕ → List ℕ)
+    (before after : B) (page : Page) (old new : BlockWriter E) (result : Result Unit AdfError) : Type 0 where
+  pub ready : IsReady (is_sound after) (source after).held page
+  pub reads : OnlyReads (source before) (source after)
+  pub held : OnOk result ((image : List ℕ) → (source before).held ≡ Some image → (state_under target new).held ≡ option_map in_blocks (with_more (appended_in target old) (text image)))
+  pub wrote : OnOk result (WritesBlocks (blocks_in old) (blocks_for (count_in old + n)) (state_under target old) (state_under target new))
+  pub effect : OnlyWrites (state_under target old) (state_under target new)
+  pub later : (state_under target old).faults ≤ (state_under target new).faults
+  pub lost : (state_under target old).lost ≤ (state_under target new).lost
+  pub cause : IfErr result (λ e. IsUnread (source before).faults (source after).faults e ⊎ (IsUnwritten (state_under target old) (state_under target new) e ⊎ IsBroken broken e))

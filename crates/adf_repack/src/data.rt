@@ -1,10 +1,8 @@
 //! The data of a node, appended in one chunk.
 
-ghost use Rattle.std.specs.Prelude.{◌≡◌, ◌+◌, ◌-◌, ◌^◌, ◌≤◌, length, max, take, replicate, ◌++◌, IfSome, OnOk};
+ghost use Rattle.std.specs.Prelude.{◌≡◌, ◌+◌, ◌^◌, ◌≤◌, length, max, take, IfSome, OnOk};
 ghost use Rattle.adf_format.specs.Parts.{node_length};
 ghost use Rattle.adf_format.specs.RecordFields.{node_chunks};
-ghost use Rattle.adf_format.specs.Pointer.{To};
-ghost use Rattle.adf_format.specs.Records.{Data, head_text, end_tag};
 ghost use Rattle.adf_records.specs.View.{record_of, HasOffsets};
 ghost use Rattle.adf_repack.specs.Writers.{IsWriter, count_in};
 ghost use Rattle.adf_repack.specs.Places.{data_room};

@@ -22,7 +22,7 @@ mod writer;
 pub use copies::{copy_entries, copy_range};
 pub use data::{copy_contents, copy_data};
 pub use families::{Families, families_of};
-pub use files::copy_file;
+pub use files::{copy_file, write_file};
 pub use headers::{
     copied_is_packed, dimensions_fit, dimensions_within, file_header, no_lists, packed_header,
 };
