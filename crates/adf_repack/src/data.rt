@@ -36,7 +36,8 @@ pub fn copy_data<B: Blocks, E: Device>(
     requires chunk { chunk + 20 + max 12 size ≤ 2 ^ 44 }
     requires within { count_in writer.old + 20 + max 12 size ≤ 2 ^ 44 }
     ensures copies { Copies B.is_sound B.state E.state
-        (BreaksData (B.state blocks.old).held header.now.wide (record_of header.now) place size) (20 + max 12 size)
+        (BreaksData (B.state blocks.old).held header.now.wide (record_of header.now) place size)
+        (20 + max 12 size)
         (λ image. copied_chunk image (record_of header.now) size chunk)
         blocks.old blocks.new page.new writer.old writer.new result }
     ensures enough { OnOk result (IfSome (B.state blocks.old).held
@@ -97,7 +98,8 @@ fn copy_payloads<B: Blocks, E: Device>(
     requires near { place + node_length header.now.wide ≤ 2 ^ 44 }
     requires within { count_in writer.old + size ≤ 2 ^ 44 }
     ensures copies { Copies B.is_sound B.state E.state
-        (BreaksData (B.state blocks.old).held header.now.wide (record_of header.now) place size) size
+        (BreaksData (B.state blocks.old).held header.now.wide (record_of header.now) place size)
+        size
         (λ image. take size (payloads_of image (record_of header.now)))
         blocks.old blocks.new page.new writer.old writer.new result }
     ensures enough { OnOk result (IfSome (B.state blocks.old).held
