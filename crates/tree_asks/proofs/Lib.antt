@@ -1,0 +1,4 @@
+pub mod Dims
+pub mod Nodes
+pub mod Answered
+pub mod Formats

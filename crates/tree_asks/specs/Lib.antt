@@ -1,0 +1,4 @@
+pub mod Told
+pub mod Headers
+pub mod Hints
+pub mod Causes
