@@ -5,9 +5,12 @@
 
 #![tactic(auto)]
 
+mod data;
 mod fields;
 mod format;
 mod headers;
 mod hints;
+mod links;
 
 pub use hints::Hints;
+pub use links::text_at;
