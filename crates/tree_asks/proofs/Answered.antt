@@ -1,10 +1,9 @@
 -- What is answered of a node, from what its header says.
-use Rattle.std.proofs.Common.{◌≡◌, ℕ, ◌+◌, ◌-◌, ◌≤◌, List, ◌++◌, length, replicate, sym, ◌∙◌, ap, subst, refl, Bool, true, Option, None, Some}
+use Rattle.std.proofs.Common.{◌≡◌, ℕ, ◌-◌, List, ◌++◌, length, replicate, sym, ◌∙◌, ap, subst, refl, Bool, true, Option, None, Some}
 use Rattle.std.specs.Prelude.{Result, Ok, Err}
 use Rattle.adf_format.specs.declared.types.DataType.{DataType}
 use Rattle.adf_format.specs.Fields.{trimmed}
 use Rattle.adf_format.specs.Tree.{Tree, Node, node_at}
-use Rattle.adf_format.specs.Placement.{Placement}
 use Rattle.adf_model.specs.declared.error.AdfError.{AdfError}
 use Rattle.adf_model.specs.declared.error.AdfError.TheVariants as error
 use Rattle.adf_model.specs.declared.tree.NodeId.{NodeId}
@@ -18,8 +17,6 @@ use Rattle.layout_laws.proofs.NodeRead.{name_again, label_again}
 use Rattle.node_reads.specs.Reads.{IsUnread}
 use Rattle.tree_edits.specs.declared.memory.Core.{Core}
 use Rattle.tree_edits.specs.Causes.{HeaderBreaks}
-use Rattle.tree_edits.specs.Rows.{Means}
-use Rattle.tree_edits.specs.Edits.{memory_of}
 use Rattle.tree_asks.specs.Told.{OfEach, IsWanted, Tells, IsFree}
 use Rattle.tree_asks.specs.Headers.{IsItsHeader, shape_of}
 use Rattle.tree_asks.specs.Causes.{IsHeaderCause}

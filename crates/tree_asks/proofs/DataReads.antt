@@ -1,5 +1,5 @@
 -- What is told of the data of a node that are read whole or in part, and why they are not read.
-use Rattle.std.proofs.Common.{◌≡◌, ◌≢◌, ℕ, ◌+◌, ◌*◌, ◌-◌, ◌^◌, ◌<◌, ◌≤◌, min, List, length, refl, sym, ◌∙◌, ap, subst, arith, Bool, true, false, not, Option, None, Some, inr, ◌∷◌, []}
+use Rattle.std.proofs.Common.{◌≡◌, ◌≢◌, ℕ, ◌+◌, ◌*◌, ◌-◌, ◌^◌, ◌≤◌, min, List, length, sym, ◌∙◌, ap, subst, arith, Bool, true, false, not, Option, None, Some, inr, ◌∷◌, []}
 use Rattle.std.specs.Prelude.{Result, Ok, Err, ◌↔◌, IsFalse}
 use Rattle.std.specs.List.{All}
 use Rattle.std.proofs.lemmas.Nat.{mul-le}
@@ -29,7 +29,7 @@ use Rattle.strided.specs.RunLists.{spread, EndsWithin, IsRunsRefusal}
 use Rattle.adf_data.specs.declared.place.DataPlace.{DataPlace}
 use Rattle.adf_data.specs.Runs.{EndsIn, Holds, NoRuns}
 use Rattle.tree_edits.specs.declared.memory.Core.{Core}
-use Rattle.tree_asks.specs.Told.{IsWanted, Tells}
+use Rattle.tree_asks.specs.Told.{Tells}
 use Rattle.tree_asks.specs.Headers.{HeaderSays, dims_of, data_shape_of}
 use Rattle.tree_asks.specs.Causes.{IsDataCause, is_large}
 use Rattle.tree_asks.proofs.NodeData.{Its, place_in, whole, whole_bytes, whole_ends, made_of, there, bytes_there, these_bytes, read_refused, read_told}

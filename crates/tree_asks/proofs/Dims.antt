@@ -1,5 +1,5 @@
 -- The dimensions that are read of a header that bytes spell.
-use Rattle.std.proofs.Common.{◌≡◌, ℕ, zero, suc, ◌+◌, ◌*◌, ◌-◌, ◌≤◌, ◌<◌, List, [], ◌∷◌, ◌++◌, length, map, take, drop, replicate, refl, sym, ◌∙◌, ap, arith, Bool, true, None, Some}
+use Rattle.std.proofs.Common.{◌≡◌, ℕ, zero, suc, ◌+◌, ◌*◌, ◌≤◌, ◌<◌, List, [], ◌∷◌, length, map, take, refl, sym, ◌∙◌, ap, arith, Bool, true, None, Some}
 use Rattle.std.specs.Prelude.{slice_get, slice_index_or, unwrap_or}
 use Rattle.std.specs.List.{range_with_len}
 use Rattle.std.proofs.lemmas.List.FromFn.{take-map-range_with_len}
@@ -14,7 +14,7 @@ use Rattle.layout_laws.proofs.NodeRead.{number_read}
 use Rattle.adf_records.specs.declared.NodeHeader.{NodeHeader}
 use Rattle.adf_records.specs.View.{record_of}
 use Rattle.node_reads.specs.Headers.{IsHeader}
-use Rattle.tree_asks.specs.Headers.{numbers_of, dims_of}
+use Rattle.tree_asks.specs.Headers.{dims_of}
 
 map_same : {A : Type 0} (f g : ℕ → A) (a n : ℕ) → ((i : ℕ) → i < n → f (a + i) ≡ g (a + i)) → map f (range_with_len a n) ≡ map g (range_with_len a n)
 map_same f g a zero same = refl

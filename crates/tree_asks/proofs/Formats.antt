@@ -1,8 +1,7 @@
 -- The letter of the format in the header of a file that lays out a tree.
-use Rattle.std.proofs.Common.{◌≡◌, ◌≢◌, ℕ, ◌+◌, ◌≤◌, List, [], ◌∷◌, length, get_or, refl, sym, ◌∙◌, ap, arith, Bool, true, false, Option, None, Some}
-use Rattle.std.specs.Prelude.{Result, Ok, Err}
+use Rattle.std.proofs.Common.{◌≡◌, ◌≢◌, ℕ, ◌+◌, ◌≤◌, List, length, get_or, refl, sym, ◌∙◌, ap, arith, Bool, true, false, Option, None, Some}
+use Rattle.std.specs.Prelude.{Ok, Err}
 use Rattle.adf_format.specs.declared.types.Format.{Format}
-use Rattle.adf_format.specs.Fields.{field}
 use Rattle.adf_format.specs.Parts.{format_letter}
 use Rattle.adf_format.specs.RecordFields.{node_length}
 use Rattle.adf_format.specs.Tree.{Tree}

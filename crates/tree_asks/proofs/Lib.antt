@@ -5,3 +5,4 @@ pub mod Formats
 pub mod NodeData
 pub mod DataReads
 pub mod LinkTexts
+pub mod Named

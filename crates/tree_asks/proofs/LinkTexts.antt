@@ -1,5 +1,5 @@
 -- What is told of the text of a link, and why it is not.
-use Rattle.std.proofs.Common.{◌≡◌, ℕ, ◌*◌, ◌-◌, ◌^◌, ◌<◌, ◌≤◌, min, List, ◌∷◌, [], length, refl, sym, ◌∙◌, ap, subst, arith, Bool, true, false, not, Option, None, Some, inl, inr}
+use Rattle.std.proofs.Common.{◌≡◌, ℕ, ◌-◌, ◌^◌, ◌<◌, ◌≤◌, min, List, ◌∷◌, [], length, refl, sym, ◌∙◌, ap, subst, arith, Bool, true, false, not, Option, None, Some, inl, inr}
 use Rattle.std.specs.List.{All}
 use Rattle.std.specs.Prelude.{Result, Ok, Err, IfOk, IfErr, if◌then◌else◌}
 use Rattle.adf_format.specs.declared.types.DataType.{DataType}

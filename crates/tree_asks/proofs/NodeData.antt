@@ -1,25 +1,23 @@
 -- The data of a node, as its chunks hold them.
-use Rattle.std.proofs.Common.{◌≡◌, ◌≢◌, ℕ, zero, suc, ◌+◌, ◌*◌, ◌-◌, ◌^◌, ◌<◌, ◌≤◌, min, List, [], ◌∷◌, ◌++◌, length, take, drop, refl, sym, ◌∙◌, ap, subst, arith, Bool, true, false, not, Option, None, Some, append-nil}
-use Rattle.std.specs.Prelude.{Result, Ok, Err, nat_lt, nat_le, ◌&&◌, if◌then◌else◌, IfSome}
+use Rattle.std.proofs.Common.{◌≡◌, ◌≢◌, ℕ, ◌*◌, ◌^◌, ◌<◌, ◌≤◌, List, [], ◌∷◌, length, refl, sym, ◌∙◌, ap, subst, arith, Bool, true, false, Option, None, Some, append-nil}
+use Rattle.std.specs.Prelude.{Result, Ok, Err, nat_lt, nat_le, ◌&&◌, IfSome}
 use Rattle.std.specs.List.{All, list_all, range_with_len}
 use Rattle.std.proofs.lemmas.Bool.Decides.{nat_tests}
 use Rattle.std.proofs.lemmas.List.{take_all}
-use Rattle.std.proofs.lemmas.List.Elements.{All-cons, All-nil, All-weaker}
+use Rattle.std.proofs.lemmas.List.Elements.{All-cons, All-nil}
 use Rattle.adf_format.specs.declared.types.DataType.{DataType}
-use Rattle.adf_format.specs.Names.{data_size, element_size, product, is_shape_of, is_rank_of, is_dimension}
+use Rattle.adf_format.specs.Names.{data_size, is_shape_of, is_rank_of, is_dimension}
 use Rattle.adf_format.specs.Tree.{Tree, Node, node_at}
 use Rattle.adf_format.specs.Placement.{Placement, NodeParts, ChunkPart}
-use Rattle.adf_format.specs.LaysOut.{HoldsNode, HasData, chunk_pointer}
+use Rattle.adf_format.specs.LaysOut.{HoldsNode, HasData}
 use Rattle.adf_format.specs.Spelled.{pointer_to}
 use Rattle.adf_model.specs.declared.error.AdfError.{AdfError}
 use Rattle.adf_model.specs.declared.error.AdfError.TheVariants as error
 use Rattle.adf_model.specs.declared.lists.Run.{Run}
 use Rattle.adf_model.specs.declared.tree.NodeId.{NodeId}
 use Rattle.adf_model.specs.declared.tree.Reply.{Reply}
-use Rattle.adf_model.specs.declared.tree.Shape.{Shape}
 use Rattle.adf_model.specs.Answers.{bytes_of}
 use Rattle.adf_model.specs.Edits.{size_of, size_limit}
-use Rattle.adf_model.specs.NodeData.{HoldsData}
 use Rattle.adf_model.specs.Selection.{element_bytes}
 use Rattle.adf_model.specs.Shapes.{is_shape}
 use Rattle.adf_model.specs.Tests.{and_then, if_there, checked}
@@ -31,7 +29,7 @@ use Rattle.adf_records.specs.declared.NodeHeader.{NodeHeader}
 use Rattle.cg_io.specs.Answers.{IsRefusal}
 use Rattle.strided.specs.RunLists.{spread}
 use Rattle.adf_data.specs.declared.place.DataPlace.{DataPlace}
-use Rattle.adf_data.specs.Runs.{EndsIn, Names, Holds, NoRuns}
+use Rattle.adf_data.specs.Runs.{EndsIn, Holds, NoRuns}
 use Rattle.adf_data.proofs.RunLaws.{run_field}
 use Rattle.tree_edits.specs.declared.memory.Core.{Core}
 use Rattle.tree_edits.specs.Rows.{Means}
@@ -39,7 +37,6 @@ use Rattle.tree_edits.specs.Edits.{memory_of}
 use Rattle.tree_asks.specs.Told.{OfEach, IsWanted, Tells}
 use Rattle.tree_asks.specs.Headers.{IsItsHeader, dims_of, data_shape_of}
 use Rattle.tree_asks.specs.Causes.{IsShapeRefusal, is_large}
-use Rattle.tree_asks.proofs.Answered.{free_wanted}
 
 -- ---- pointers, runs and sizes
 

@@ -1,5 +1,5 @@
 -- The header of a node that has a row, and why it is not read.
-use Rattle.std.proofs.Common.{◌≡◌, ℕ, ◌≤◌, List, sym, ◌∙◌, ap, subst, Bool, true, Option, None, Some}
+use Rattle.std.proofs.Common.{◌≡◌, ℕ, ◌≤◌, List, sym, subst, Option, None, Some}
 use Rattle.std.specs.Prelude.{Result, Ok, Err, IfOk, IfErr}
 use Rattle.adf_format.specs.RecordFields.{node_length}
 use Rattle.adf_format.specs.Tree.{Tree}
@@ -8,9 +8,11 @@ use Rattle.adf_format.specs.LaysOut.{fields_of}
 use Rattle.adf_model.specs.declared.error.AdfError.{AdfError}
 use Rattle.adf_model.specs.declared.error.AdfError.TheVariants as error
 use Rattle.adf_records.specs.declared.NodeHeader.{NodeHeader}
-use Rattle.node_reads.specs.Reads.{ReadAt, IsUnread}
-use Rattle.node_reads.specs.Headers.{IsHeader}
-use Rattle.node_reads.proofs.LaidOut.{header_within}
+use Rattle.adf_format.specs.Checks.{first_broken}
+use Rattle.node_reads.specs.declared.header.ChildTable.{ChildTable}
+use Rattle.node_reads.specs.Reads.{ReadAt, IsUnread, IsFault}
+use Rattle.node_reads.specs.Headers.{IsHeader, table_rows}
+use Rattle.node_reads.proofs.LaidOut.{header_within, table_breaks_none}
 use Rattle.node_reads.proofs.ReadLaws.{read_is_field}
 use Rattle.tree_edits.specs.declared.memory.Core.{Core}
 use Rattle.tree_edits.specs.declared.rows.Row.{Row}
@@ -54,7 +56,7 @@ module _ (core : Core) (serial : ℕ) (row : Row) (found : row_of core.rows.item
   small held (Ok h) r = few_dims core.wide row.place h r.bytes r.says
   small held (Err e) r = tt
 
-  unread : (held : Option (List ℕ)) (before now : ℕ) (e : AdfError) → IsUnread (HeaderBreaks core.wide held row.place) before now e → OfEach core held (λ image tree p. IsFree e)
+  pub unread : (held : Option (List ℕ)) (before now : ℕ) (e : AdfError) → IsUnread (HeaderBreaks core.wide held row.place) before now e → OfEach core held (λ image tree p. IsFree e)
   unread None before now e h = tt
   unread (Some image) before now error.ReadFault h = λ tree p m. tt
   unread (Some image) before now (error.Layout rule at) h = λ tree p m. absurd (no_break image (memory_of core) serial row found tree p m rule at h)
@@ -63,3 +65,14 @@ module _ (core : Core) (serial : ℕ) (row : Row) (found : row_of core.rows.item
   pub free : {T : Type 0} (held : Option (List ℕ)) (before now : ℕ) (o : Result T AdfError) → IfErr o (IsUnread (HeaderBreaks core.wide held row.place) before now) → IfErr o (λ e. OfEach core held (λ image tree p. IsFree e))
   free held before now (Ok h) r = tt
   free held before now (Err e) r = unread held before now e r
+
+  -- nor is its table refused
+  pub table_free : (held : Option (List ℕ)) (header : NodeHeader) (o : Result ChildTable AdfError) → ReadAt held row.place (node_length core.wide) (IsHeader core.wide row.place None header) → IfErr o (IsFault (first_broken (table_rows header row.place)))
+      → IfErr o (λ e. OfEach core held (λ image tree p. IsFree e))
+  table_free held header (Ok t) r broken = tt
+  table_free None header (Err e) r broken = tt
+  table_free (Some image) header (Err e) r broken = λ tree p m.
+      let n = the_node image (memory_of core) serial row found tree p m in
+      let says = header_says image (memory_of core) serial row found tree p m header r in
+      let none = table_breaks_none image tree p serial n.node n.parts header n.is says in
+      absurd (subst (λ o. IsFault o e) (subst (λ k. first_broken (table_rows header k) ≡ None) n.at none) broken)

@@ -1,6 +1,6 @@
 -- Why a question is refused, also where the bytes are not told: each refusal names what is so of the question, of the table of
 -- nodes and of the bytes that were read.
-use Rattle.std.specs.Prelude.{◌≡◌, ◌≢◌, ◌⊎◌, ℕ, ◌+◌, ◌*◌, ◌^◌, ◌<◌, ◌≤◌, Bool, true, false, List, get_or, Option, Some, None, IfSome, ⊤}
+use Rattle.std.specs.Prelude.{◌≡◌, ◌≢◌, ◌⊎◌, ℕ, ◌+◌, ◌*◌, ◌^◌, ◌<◌, Bool, true, false, List, get_or, Option, Some, None, ⊤}
 use Rattle.adf_format.specs.Names.{is_lk, data_size}
 use Rattle.adf_format.specs.Links.{is_link_text}
 use Rattle.adf_format.specs.RuleNumbers.{IsRule}

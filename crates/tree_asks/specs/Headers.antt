@@ -1,9 +1,9 @@
 -- What the header of a node says, and what the node has of it.
-use Rattle.std.specs.Prelude.{◌≡◌, ℕ, ◌-◌, Bool, List, [], ◌++◌, take, map, replicate, slice_index_or, Option, Some, None, unwrap_or}
+use Rattle.std.specs.Prelude.{◌≡◌, ℕ, ◌-◌, Bool, List, [], ◌++◌, take, map, replicate, slice_index_or, Option, None, unwrap_or}
 use Rattle.adf_format.specs.Hex.{hex_value}
 use Rattle.adf_format.specs.RecordFields.{node_length, dimension_digits}
 use Rattle.adf_format.specs.FirstFault.{count_up}
-use Rattle.adf_format.specs.Tree.{Tree, Node, node_at}
+use Rattle.adf_format.specs.Tree.{Tree, Node}
 use Rattle.adf_format.specs.Placement.{Placement, NodeParts}
 use Rattle.adf_format.specs.LaysOut.{fields_of}
 use Rattle.adf_model.specs.declared.tree.Shape.{Shape}
@@ -11,8 +11,6 @@ use Rattle.adf_records.specs.declared.NodeHeader.{NodeHeader}
 use Rattle.node_reads.specs.Reads.{ReadAt}
 use Rattle.node_reads.specs.Headers.{IsHeader, SaysFields}
 use Rattle.node_reads.specs.LaidOut.{IsNodeOf}
-use Rattle.tree_edits.specs.declared.memory.Core.{Core}
-use Rattle.tree_asks.specs.Told.{OfEach}
 
 -- the dimensions of a header as numbers
 abbrev pub numbers_of : NodeHeader → List ℕ

@@ -5,6 +5,7 @@
 
 #![tactic(auto)]
 
+mod children;
 mod data;
 mod fields;
 mod format;
@@ -12,5 +13,6 @@ mod headers;
 mod hints;
 mod links;
 
+pub use children::child_at;
 pub use hints::Hints;
 pub use links::text_at;

@@ -1,5 +1,4 @@
-use Rattle.std.proofs.Common.{◌+◌, ◌-◌, ◌≤◌, ◌∙◌, ◌++◌, List, ℕ, ◌≡◌, [], ◌∷◌, ap, refl, take, drop, replicate}
-use Rattle.adf_model.specs.declared.tree.Shape.{Shape}
+use Rattle.std.proofs.Common.{◌-◌, ◌∙◌, ◌++◌, List, ℕ, ◌≡◌, ap, take, drop, replicate}
 use Rattle.std.proofs.lemmas.List.{drop-replicate}
 use Rattle.tree_asks.specs.Headers.{numbers_of}
 use Rattle.tree_asks.proofs.fields.shape_in.Goals as goal

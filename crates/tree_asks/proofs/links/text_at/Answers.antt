@@ -1,4 +1,4 @@
-use Rattle.std.proofs.Common.{◌∙◌, sym, subst, false, true, Some}
+use Rattle.std.proofs.Common.{◌∙◌, sym}
 use Rattle.tree_asks.proofs.Answered.{tells_free}
 use Rattle.tree_asks.proofs.LinkTexts.{nothing_there, no_link}
 use Rattle.tree_asks.proofs.links.text_at.Goals as goal
