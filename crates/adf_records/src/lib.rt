@@ -17,6 +17,7 @@ ghost use Rattle.adf_format.specs.Records.{header_record, header_text, free_tabl
 ghost use Rattle.adf_records.specs.View.{fault, header_of, HasHeaderOffsets, pointers_of, HasFreeOffsets, record_of, HasOffsets, IsNarrow};
 ghost use Rattle.adf_records.specs.Laws.{HeaderIsReadAgain, FreeIsReadAgain, NodeIsReadAgain, HeaderIsWrittenAgain, FreeIsWrittenAgain, NodeIsWrittenAgain, FreeFaultIsPlaced, NodeFaultIsPlaced};
 
+use adf_format::fields::{FREE_TABLE_LENGTH, FREE_TABLE_PLACE, NODE_TAIL_LENGTH, node_chunks};
 use adf_format::texts::{is_name, trimmed};
 use adf_format::{DataType, Format};
 use disk_ptr::DiskPtr;
@@ -26,6 +27,16 @@ mod free_table;
 mod header;
 mod node;
 mod texts;
+
+/// The bytes of the file header and of the free table, which stand in each file.
+pub const FILE_HEAD_LENGTH: usize = FREE_TABLE_PLACE + FREE_TABLE_LENGTH;
+
+/// The bytes of the header of a node.
+pub fn node_length(wide: bool) -> usize
+    ensures { result ≡ node_length wide }
+{
+    node_chunks(wide).offset + NODE_TAIL_LENGTH
+}
 
 /// The header at the start of a file.
 #[derive(Clone, Copy, PartialEq, Eq)]

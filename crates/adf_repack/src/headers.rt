@@ -11,9 +11,12 @@ ghost use Rattle.packed_laws.specs.PackedForm.{packed_header_of};
 ghost use Rattle.adf_repack.specs.Places.{room_of};
 ghost use Rattle.adf_repack.specs.Copies.{pointer_when, copied_record, CopiedIsPacked};
 
-use crate::places::{NodeShape, header_length, table_room};
+use crate::places::{NodeShape, table_room};
 use adf_format::Format;
-use adf_records::{FileHeader, FreeTable, NodeHeader, dimensions_of};
+use adf_format::fields::FREE_TABLE_PLACE;
+use adf_records::{
+    FILE_HEAD_LENGTH, FileHeader, FreeTable, NodeHeader, dimensions_of, node_length,
+};
 use disk_ptr::fields::put_number;
 use disk_ptr::{DiskPtr, from_place};
 
@@ -30,9 +33,9 @@ pub fn file_header(wide: bool, format: Format, end: u64) -> FileHeader
         format,
         size_letter: b'L',
         sizes: [b'0'; 24],
-        root: pointer(true, 266),
+        root: pointer(true, FILE_HEAD_LENGTH as u64),
         end: pointer(true, end),
-        free_table: pointer(true, 186),
+        free_table: pointer(true, FREE_TABLE_PLACE as u64),
         extra: *b"000000001000",
     }
 }
@@ -81,7 +84,7 @@ pub fn packed_header(
     ensures offsets { HasOffsets result }
     ensures wide { result.wide ≡ wide }
 {
-    let table = place + header_length(wide);
+    let table = place + node_length(wide) as u64;
     NodeHeader {
         wide,
         name: header.name,

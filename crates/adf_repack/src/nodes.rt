@@ -11,7 +11,7 @@ ghost use Rattle.adf_repack.specs.Plans.{IsPlan, shape_at, header_at, copied_nod
 
 use crate::data::copy_contents;
 use crate::headers::{dimensions_fit, dimensions_within, packed_header};
-use crate::places::{header_length, table_room};
+use crate::places::table_room;
 use crate::plan::Plan;
 use crate::puts::put_header;
 use crate::reads::read_header;
@@ -19,7 +19,7 @@ use crate::source::Page;
 use crate::tables::copy_children;
 use crate::writer::BlockWriter;
 use adf_model::AdfError;
-use adf_records::NodeHeader;
+use adf_records::{NodeHeader, node_length};
 use cg_io::{Blocks, Device};
 use layout_lint::NodePlace;
 
@@ -58,7 +58,7 @@ pub fn copy_parts<B: Blocks, E: Device>(
         Ok(()) => {}
         Err(error) => return Err(error),
     }
-    let table = at + header_length(plan.wide);
+    let table = at + node_length(plan.wide) as u64;
     match copy_children(blocks, page, writer, header, nodes, plan, number, table) {
         Ok(()) => {}
         Err(error) => return Err(error),

@@ -7,6 +7,7 @@ ghost use Rattle.adf_repack.specs.Places.{table_room, data_room, room_of, place_
 
 use adf_format::fields::{ENTRY_LENGTH, HEAD_LENGTH, TAG_LENGTH};
 use adf_model::AdfError;
+use adf_records::{FILE_HEAD_LENGTH, node_length};
 use std::alloc::{AllocError, Global};
 
 /// How many children a node has, and how many bytes of data, where it has data.
@@ -38,7 +39,7 @@ pub fn packed_places(
         → get_or p.headers.items k 0 ≡ limited (place_of wide shapes.now k)) }
 {
     let mut headers = Vec::new(alloc);
-    let mut place: u64 = 266;
+    let mut place = FILE_HEAD_LENGTH as u64;
     for shape in shapes {
         headers.push(place)?;
         place = place.saturating_add(room_for(wide, shape));
@@ -72,16 +73,9 @@ pub fn length_is_packed()
 fn room_for(wide: bool, shape: &NodeShape) -> u64
     ensures { result ≡ limited (room_of wide shape.now) }
 {
-    header_length(wide)
+    (node_length(wide) as u64)
         .saturating_add(table_room(shape.children))
         .saturating_add(data_room(shape.size))
-}
-
-// The bytes of the header of a node.
-pub(crate) fn header_length(wide: bool) -> u64
-    ensures { result ≡ node_length wide }
-{
-    if wide { 342 } else { 246 }
 }
 
 // The bytes of a table of so many children: none without children.

@@ -14,7 +14,7 @@ ghost use Rattle.node_reads.specs.Reads.{ReadAt, Breaks, IsUnread};
 ghost use Rattle.adf_repack.specs.Sources.{IsReady, IsUnread as IsReadFault, IsBroken, IsBeyond};
 
 use crate::source::{Page, bytes_at};
-use adf_format::fields::{ENTRY_LENGTH, HEAD_LENGTH};
+use adf_format::fields::{ENTRY_LENGTH, HEAD_LENGTH, HEADER_LENGTH};
 use adf_model::{AdfError, Shape, size};
 use adf_records::{FileHeader, NodeHeader, decode_header, decode_named, dimensions_of};
 use cg_io::Blocks;
@@ -30,7 +30,7 @@ pub fn read_file_header<B: Blocks>(blocks: &mut B, page: &mut Page) -> Result<Fi
     ensures cause { IfErr result (IsUnread (Breaks (B.state blocks.old).held 0 186 file_rows)
         (B.state blocks.old).faults (B.state blocks.new).faults) }
 {
-    let bytes = match bytes_at::<B, 186>(blocks, page, 0) {
+    let bytes = match bytes_at::<B, HEADER_LENGTH>(blocks, page, 0) {
         Ok(bytes) => bytes,
         Err(_) => return Err(AdfError::ReadFault),
     };

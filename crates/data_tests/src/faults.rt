@@ -1,11 +1,12 @@
 //! What is answered where a call of the space fails.
-use crate::spaces::Bytes;
+use crate::images::front;
 use crate::steps::{Step, new_heap, run};
 use adf_data::DataPlace;
 use adf_model::AdfError;
 use std::alloc::Global;
 use std::process::Abort;
 use std::test::Fail;
+use test_spaces::Bytes;
 
 /// Each kind of call: all ways to grow but gathering, a write, a read and a release.
 const CALLS: [Step; 6] = [
@@ -36,7 +37,7 @@ fn run_all(rt: &impl Abort, alloc: Global, space: &mut Bytes) -> Result<(), AdfE
 #[test]
 fn each_call_of_the_space_may_fail(rt: HostRuntime) -> Result<(), Fail> {
     for k in 1..400 {
-        let mut space = Bytes::new(rt.alloc(), 4096)?;
+        let mut space = front(rt.alloc(), 4096)?;
         space.failing = k;
         match run_all(&rt, rt.alloc(), &mut space) {
             Ok(()) => {

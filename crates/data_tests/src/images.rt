@@ -2,16 +2,29 @@
 ghost use Rattle.std.specs.Prelude.{◌≡◌, ◌≤◌, ◌^◌, ◌<◌, IfSome};
 ghost use Rattle.disk_ptr.specs.View.{HasOffset};
 
-use crate::spaces::Bytes;
 use adf_chunks::{ChunkEntry, Part, encode_chunk_entry, encode_head, tail};
 use adf_data::DataPlace;
 use disk_ptr::{DiskPtr, from_place};
+use std::alloc::{AllocError, Global};
+use test_spaces::Bytes;
 
 fn near(at: u64) -> DiskPtr
     requires { at < 2 ^ 44 }
     ensures { HasOffset result }
 {
     from_place(at)
+}
+
+/// The front of a file with blank lists, and room for so many bytes.
+pub fn front(alloc: Global, room: usize) -> Result<Bytes, AllocError> {
+    let mut space = Bytes::with_room(alloc, room)?;
+    space.put(146, b"0000000001FF");
+    space.put(186, b"fCbt");
+    for k in 0..6u64 {
+        space.put(190 + 12 * k, b"000000001000");
+    }
+    space.put(262, b"Fcte");
+    Ok(space)
 }
 
 // Writes a chunk with this payload.

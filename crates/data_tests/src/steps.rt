@@ -7,7 +7,6 @@ ghost use Rattle.disk_ptr.specs.View.{HasOffset};
 ghost use Rattle.file_heap.specs.Heap.{IsHeap};
 ghost use Rattle.adf_data.specs.Runs.{EndsIn, run_bytes};
 
-use crate::spaces::Bytes;
 use adf_chunks::{Extent, ExtentKind, Extents};
 use adf_data::{DataPlace, read_runs, release, resize, write_runs};
 use adf_model::{AdfError, Listing, Run, Runs};
@@ -16,6 +15,7 @@ use file_heap::Heap;
 use std::alloc::Global;
 use std::process::Abort;
 use std::test::Fail;
+use test_spaces::Bytes;
 
 /// A call, or what is expected where it stands.
 #[derive(Clone, Copy)]

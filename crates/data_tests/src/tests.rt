@@ -1,9 +1,9 @@
 //! The data of one node, as tables of steps.
-use crate::images::{crowded, opened};
-use crate::spaces::Bytes;
+use crate::images::{crowded, front, opened};
 use crate::steps::{Step, run_at, run_on};
 use adf_chunks::ExtentKind::FreeChunk;
 use std::test::Fail;
+use test_spaces::Bytes;
 
 const HUNDRED: [u8; 100] = [7; 100];
 
@@ -53,7 +53,7 @@ const A_NODE_GROWS: [Step; 17] = [
 
 #[test]
 fn a_growth_adds_a_chunk_and_places_the_table_anew(rt: HostRuntime) -> Result<(), Fail> {
-    let space = Bytes::new(rt.alloc(), 4096)?;
+    let space = front(rt.alloc(), 4096)?;
     run_on(&rt, rt.alloc(), space, 1129, 1, &A_NODE_GROWS)
 }
 
@@ -79,7 +79,7 @@ const SHRUNK: [Step; 9] = [
 
 #[test]
 fn old_bytes_do_not_come_back(rt: HostRuntime) -> Result<(), Fail> {
-    let space = Bytes::new(rt.alloc(), 4096)?;
+    let space = front(rt.alloc(), 4096)?;
     run_on(&rt, rt.alloc(), space, 1129, 1, &SHRUNK)
 }
 
@@ -165,7 +165,7 @@ const SIXTY_FOUR_CHUNKS: [Step; 69] = [
 
 #[test]
 fn data_in_many_chunks_are_gathered(rt: HostRuntime) -> Result<(), Fail> {
-    let space = Bytes::new(rt.alloc(), 1 << 16)?;
+    let space = front(rt.alloc(), 1 << 16)?;
     run_on(&rt, rt.alloc(), space, 1129, 16, &SIXTY_FOUR_CHUNKS)
 }
 
@@ -219,7 +219,7 @@ const CUT_ELEMENTS: [Step; 12] = [
 
 #[test]
 fn elements_are_cut_between_chunks(rt: HostRuntime) -> Result<(), Fail> {
-    let space = Bytes::new(rt.alloc(), 4096)?;
+    let space = front(rt.alloc(), 4096)?;
     run_on(&rt, rt.alloc(), space, 1129, 1, &CUT_ELEMENTS)
 }
 
@@ -239,7 +239,7 @@ const RELEASED: [Step; 9] = [
 
 #[test]
 fn a_release_gives_the_table_and_all_chunks(rt: HostRuntime) -> Result<(), Fail> {
-    let space = Bytes::new(rt.alloc(), 4096)?;
+    let space = front(rt.alloc(), 4096)?;
     run_on(&rt, rt.alloc(), space, 1129, 1, &RELEASED)
 }
 
@@ -262,9 +262,9 @@ const NO_ROOM_FOR_THE_TABLE: [Step; 2] = [
 
 #[test]
 fn a_take_that_does_not_fit_is_named(rt: HostRuntime) -> Result<(), Fail> {
-    let space = Bytes::new(rt.alloc(), 4096)?;
+    let space = front(rt.alloc(), 4096)?;
     run_on(&rt, rt.alloc(), space, 1129, 1, &NO_ROOM_FOR_A_CHUNK)?;
-    let space = Bytes::new(rt.alloc(), 4096)?;
+    let space = front(rt.alloc(), 4096)?;
     run_on(&rt, rt.alloc(), space, 1129, 1, &NO_ROOM_FOR_THE_TABLE)
 }
 
@@ -316,7 +316,7 @@ const AN_OPENED_FILE: [Step; 11] = [
 
 #[test]
 fn chunks_of_an_opened_file_stand_in_any_order(rt: HostRuntime) -> Result<(), Fail> {
-    let mut space = Bytes::new(rt.alloc(), 8192)?;
+    let mut space = front(rt.alloc(), 8192)?;
     let Some(at) = opened(&mut space, 4000, &DESCENDING) else {
         return Err("the file is not made")?;
     };
@@ -357,7 +357,7 @@ const A_CROWDED_FILE: [Step; 8] = [
 
 #[test]
 fn as_many_chunks_as_a_table_lists_are_gathered(rt: HostRuntime) -> Result<(), Fail> {
-    let mut space = Bytes::new(rt.alloc(), 1 << 22)?;
+    let mut space = front(rt.alloc(), 1 << 22)?;
     let Some(at) = crowded(&mut space) else {
         return Err("the file is not made")?;
     };

@@ -5,7 +5,6 @@ ghost use Rattle.std.specs.Prelude.{◌≡◌, ◌≤◌, ◌^◌, ◌<◌, fals
 ghost use Rattle.adf_records.specs.View.{HasOffsets};
 ghost use Rattle.disk_ptr.specs.View.{HasOffset};
 
-use crate::spaces::Bytes;
 use adf_chunks::{NodeEntry, Part, encode_entry, encode_head, tail};
 use adf_format::{DataType, Format};
 use adf_records::{
@@ -14,6 +13,7 @@ use adf_records::{
 use disk_ptr::{DiskPtr, from_place};
 use std::alloc::Global;
 use std::test::Fail;
+use test_spaces::Bytes;
 
 /// The root, and where the headers of the others stand.
 pub const ROOT: u64 = 266;

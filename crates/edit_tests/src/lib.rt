@@ -6,8 +6,6 @@ mod faults;
 #[cfg(test)]
 mod files;
 #[cfg(test)]
-mod spaces;
-#[cfg(test)]
 mod steps;
 #[cfg(test)]
 mod tests;

@@ -2,13 +2,13 @@
 //!
 //! Each helper makes one call, where its condition holds, and has no clause.
 use crate::files::{A, B, C, END, LINK, ROOT, four_nodes};
-use crate::spaces::Bytes;
 use adf_chunks::Extents;
 use adf_model::{AdfError, NodeId};
 use file_heap::Heap;
 use std::alloc::Global;
 use std::process::Abort;
 use std::test::Fail;
+use test_spaces::Bytes;
 use tree_edits::{Core, Row, Rows, create, rename, set_label};
 
 /// An edit, or what is expected where it stands.

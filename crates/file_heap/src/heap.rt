@@ -17,6 +17,7 @@ use crate::reading::{read_list, unread};
 use crate::slots::{find_fit, gap_of, meets_none};
 use crate::take::{cut_front, grow};
 use adf_chunks::Extents;
+use adf_format::fields::{FREE_TABLE_LENGTH, FREE_TABLE_PLACE};
 use adf_model::AdfError;
 use cg_io::Space;
 use gap_tree::{Class, Tree};
@@ -153,7 +154,7 @@ impl Heap {
         ensures may { IsTrue result → MayGive place n self.now.work.heap }
         ensures must { 1 ≤ n → MayGive place n self.now.work.heap → IsTrue result }
     {
-        if place < 266 {
+        if place < (FREE_TABLE_PLACE + FREE_TABLE_LENGTH) as u64 {
             return false;
         }
         if place + n > self.end + 1 {

@@ -10,6 +10,9 @@ ghost use Rattle.file_heap.specs.Links.{link_at, Follows, PointsNowhere, HasHead
 ghost use Rattle.adf_format.specs.RuleNumbers.{IsRule};
 ghost use Rattle.file_heap.specs.Heap.{ChangesOnly};
 
+use adf_format::fields::{
+    FREE_TABLE_LENGTH, FREE_TABLE_PLACE, LARGE_FIRST, MEDIUM_FIRST, SMALL_FIRST,
+};
 use adf_model::AdfError;
 use cg_io::Space;
 use disk_ptr::{DiskPtr, from_place, place as place_named};
@@ -43,9 +46,9 @@ pub(crate) fn first_at(list: Class) -> u64
     ensures table { result + 24 ≤ 262 }
 {
     match list {
-        Class::Small => 190,
-        Class::Medium => 214,
-        Class::Large => 238,
+        Class::Small => (FREE_TABLE_PLACE + SMALL_FIRST.offset) as u64,
+        Class::Medium => (FREE_TABLE_PLACE + MEDIUM_FIRST.offset) as u64,
+        Class::Large => (FREE_TABLE_PLACE + LARGE_FIRST.offset) as u64,
     }
 }
 
@@ -89,7 +92,11 @@ fn no_pointer(at: u64) -> AdfError
     ensures { (rule : ℕ) × IsRule rule × (result ≡ AdfError.Layout rule at) }
 {
     AdfError::Layout {
-        rule: if at < 266 { 10 } else { 29 },
+        rule: if at < (FREE_TABLE_PLACE + FREE_TABLE_LENGTH) as u64 {
+            10
+        } else {
+            29
+        },
         place: at,
     }
 }

@@ -13,6 +13,7 @@ ghost use Rattle.file_heap.specs.Heap.{Grows, IsTakeRefusal, ChangesOnly, MovesE
 use crate::give::{absorb, give_alone};
 use crate::links::write_link;
 use crate::slots::{gap_of, join_at, or_memory};
+use adf_format::fields::HEADER_END;
 use adf_model::AdfError;
 use cg_io::Space;
 use gap_tree::Tree;
@@ -49,7 +50,7 @@ pub(crate) fn grow<S: Space>(
             end: *end,
         });
     }
-    write_link(space, 146, Some(last))?;
+    write_link(space, HEADER_END.offset as u64, Some(last))?;
     let place = *end + 1;
     *end = last;
     Ok(place)

@@ -1,5 +1,5 @@
 //! What is answered where a call of the space or an allocation fails.
-use crate::spaces::{Bytes, CHUNK_GAPS, Gap, chunks, extents, nine_children};
+use crate::files::{CHUNK_GAPS, Gap, chunks, extents, nine_children};
 use crate::steps::{Step, accept, ends_at, has_gaps, new_heap, run, undo};
 use adf_chunks::ExtentKind::{Filler, FreeChunk};
 use adf_chunks::Extents;
@@ -8,6 +8,7 @@ use file_heap::Heap;
 use std::alloc::Global;
 use std::process::Abort;
 use std::test::Fail;
+use test_spaces::Bytes;
 
 /// A take that reads, takes out of a list and puts into another, and a give.
 const CALLS: [Step; 2] = [

@@ -6,9 +6,9 @@ mod conditions;
 #[cfg(test)]
 mod faults;
 #[cfg(test)]
-mod lists;
+mod files;
 #[cfg(test)]
-mod spaces;
+mod lists;
 #[cfg(test)]
 mod steps;
 #[cfg(test)]

@@ -1,7 +1,7 @@
 //! The three lists of free chunks, as a space has them.
-use crate::spaces::Bytes;
 use adf_chunks::{Part, decode_free_head, tail};
 use disk_ptr::{decode, place};
+use test_spaces::Bytes;
 
 /// The place that a pointer in the space names, none where it is blank; nothing where there is no pointer.
 fn pointer_at(space: &mut Bytes, at: u64) -> Option<Option<u64>> {

@@ -2,14 +2,15 @@
 //!
 //! Each helper makes one call, where its condition holds, and has no clause.
 use crate::conditions::are_gaps;
+use crate::files::{Gap, extents, holds};
 use crate::lists::{has_lists, names};
-use crate::spaces::{Bytes, Gap, extents, holds};
 use adf_chunks::{Extent, Extents};
 use adf_model::AdfError;
 use file_heap::Heap;
 use std::alloc::Global;
 use std::process::Abort;
 use std::test::Fail;
+use test_spaces::Bytes;
 
 /// A call, or what is expected where it stands.
 #[derive(Clone, Copy)]

@@ -1,11 +1,12 @@
 //! Takes and gives on files made by hand, as tables of steps.
-use crate::spaces::{CHUNK_GAPS, Gap, blank, chunks, extents, nine_children};
+use crate::files::{CHUNK_GAPS, Gap, blank, chunks, extents, nine_children};
 use crate::steps::{
     Step, ends_at, has_gaps, is_refused, is_refused_with, new_heap, run, run_on, take, undo,
 };
 use adf_chunks::ExtentKind::{Filler, FreeChunk};
 use adf_model::AdfError;
 use std::test::Fail;
+use test_spaces::Bytes;
 
 /// The one gap of the file with nine children.
 const FIRST_TABLE: [Gap; 1] = [(758, 372, FreeChunk)];

@@ -1,5 +1,5 @@
 //! The tree of gaps by itself: gaps that are put in, replaced and taken out, and what was kept of it meanwhile.
-use crate::spaces::Gap;
+use crate::files::Gap;
 use crate::steps::are_these;
 use adf_chunks::ExtentKind::{Filler, FreeChunk};
 use adf_chunks::{Extent, ExtentKind};

@@ -14,6 +14,7 @@ ghost use Rattle.layout_lint.specs.Nodes.{IsHeaderAt, numbers_of};
 
 use crate::pages::{Page, read_at};
 use crate::verdict::{Halt, Span, halt_at};
+use adf_format::fields::NODE_TYPE;
 use adf_format::{DataType, Extent};
 use adf_links::{LONGEST_LINK, split_link};
 use adf_model::{Shape, size};
@@ -226,7 +227,7 @@ pub fn look_at_contents<B: Blocks>(
     }
     match is_sound_link(blocks, page, header, size, chunks) {
         Ok(true) => Ok(()),
-        Ok(false) => halt_at(28, place + 96),
+        Ok(false) => halt_at(28, place + NODE_TYPE.offset as u64),
         Err(halt) => Err(halt),
     }
 }

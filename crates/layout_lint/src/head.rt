@@ -16,7 +16,8 @@ ghost use Rattle.layout_lint.specs.Heads.{IsHead};
 use crate::pages::{Page, field_at};
 use crate::verdict::{Halt, Span, halt_at};
 use adf_format::Format;
-use adf_records::{FileHeader, FreeTable, decode_free, decode_header};
+use adf_format::fields::{FREE_TABLE_PLACE, HEADER_END};
+use adf_records::{FILE_HEAD_LENGTH, FileHeader, FreeTable, decode_free, decode_header};
 use cg_io::Blocks;
 use disk_ptr::{DiskPtr, place};
 
@@ -28,11 +29,6 @@ pub struct Head {
     pub span: Span,
     pub lists: FreeTable,
 }
-
-/// The bytes of the header and of the free table, which stand in each file.
-pub const FILE_HEAD_LENGTH: u64 = 266;
-
-const FREE_TABLE: u64 = 186;
 
 /// The place that a pointer names; 0 where it names none.
 pub fn place_of(p: DiskPtr) -> u64
@@ -58,7 +54,7 @@ fn length_of<B: Blocks>(blocks: &mut B, page: &Page) -> Result<u64, Halt>
         (B.state blocks.new).faults) }
 {
     match blocks.length() {
-        Ok(length) if length < FILE_HEAD_LENGTH => halt_at(1, 0),
+        Ok(length) if length < FILE_HEAD_LENGTH as u64 => halt_at(1, 0),
         Ok(length) => Ok(length),
         Err(_) => Err(Halt::Read),
     }
@@ -97,10 +93,10 @@ fn free_table_at<B: Blocks>(blocks: &mut B, page: &mut Page) -> Result<FreeTable
     ensures cause { IfErr result (HasCount (B.state blocks.old).faults
         (B.state blocks.new).faults) }
 {
-    let bytes = field_at(blocks, page, FREE_TABLE)?;
+    let bytes = field_at(blocks, page, FREE_TABLE_PLACE as u64)?;
     match decode_free(&bytes) {
         Ok(lists) => Ok(lists),
-        Err(bad) => halt_at(bad.rule, FREE_TABLE + u64::from(bad.offset)),
+        Err(bad) => halt_at(bad.rule, FREE_TABLE_PLACE as u64 + u64::from(bad.offset)),
     }
 }
 
@@ -146,7 +142,7 @@ pub fn look_at_head<B: Blocks>(blocks: &mut B, page: &mut Page) -> Result<Head, 
     let header = header_at(blocks, page)?;
     let span = span_of(&header);
     if !is_end(span, length) {
-        return halt_at(8, 146);
+        return halt_at(8, HEADER_END.offset as u64);
     }
     let lists = free_table_at(blocks, page)?;
     Ok(Head {

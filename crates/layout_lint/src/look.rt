@@ -22,6 +22,7 @@ use crate::head::place_of;
 use crate::node::{Met, look_at_header};
 use crate::pages::Page;
 use crate::verdict::{Halt, Span, halt_at};
+use adf_format::fields::NODE_CHILDREN;
 use adf_format::limits::{DEEPEST, MOST_CHILDREN};
 use adf_format::{DataType, Extent, ExtentKind};
 use adf_records::NodeHeader;
@@ -210,7 +211,7 @@ pub fn look<B: Blocks>(
 {
     let header = look_at_header(blocks, page, span, known, used, met)?;
     if !has_few_children(&header, met.depth) {
-        return halt_at(22, met.place + 68);
+        return halt_at(22, met.place + NODE_CHILDREN.offset as u64);
     }
     let length = span.node_length() as u64;
     add_extent(extents, ExtentKind::Node, met.place, length)?;

@@ -15,13 +15,15 @@ ghost use Rattle.layout_lint.specs.Walks.{node_place};
 ghost use Rattle.layout_lint.specs.Owners.{extent_of, owned_by, owned_from, IsThere, name_of, KeepRules, place_of_node, IsLaidAt, OwnsPlaces, AreNamesAt, OwnsAll, IsNoLayout, refusal_of};
 ghost use Rattle.layout_lint.specs.Paths.{AreNames};
 
-use crate::head::{FILE_HEAD_LENGTH, look_at_head};
+use crate::head::look_at_head;
 use crate::look::look;
 use crate::node::Met;
 use crate::pages::Page;
 use crate::verdict::{Halt, NodePlace, NodePlaces, Span};
+use adf_format::fields::{FREE_TABLE_LENGTH, FREE_TABLE_PLACE, HEADER_LENGTH};
 use adf_format::{Extent, ExtentKind, Extents, Listing};
 use adf_model::AdfError;
+use adf_records::FILE_HEAD_LENGTH;
 use cg_io::Blocks;
 use std::alloc::{AllocError, Global};
 
@@ -111,7 +113,7 @@ fn add_nodes<B: Blocks>(
     ensures cause { IfErr result (MayLackMemory (B.state blocks.old).faults
         (B.state blocks.new).faults) }
 {
-    let mut used = FILE_HEAD_LENGTH;
+    let mut used = FILE_HEAD_LENGTH as u64;
     for k in 0..places.len() {
         let mut extents = Vec::new(alloc);
         let met = met_at(places[k]);
@@ -129,12 +131,12 @@ fn add_nodes<B: Blocks>(
 const HEAD: [Extent; 2] = [
     Extent {
         place: 0,
-        length: 186,
+        length: HEADER_LENGTH as u64,
         kind: ExtentKind::Header,
     },
     Extent {
-        place: 186,
-        length: 80,
+        place: FREE_TABLE_PLACE as u64,
+        length: FREE_TABLE_LENGTH as u64,
         kind: ExtentKind::FreeTable,
     },
 ];

@@ -6,6 +6,7 @@ ghost use Rattle.adf_format.specs.FirstFault.{fits, has_room};
 ghost use Rattle.layout_lint.specs.declared.verdict.Halt.{Halt};
 
 use adf_format::{Extents, Format, Listing};
+use adf_records::{FILE_HEAD_LENGTH, node_length};
 
 /// Where a node of a sound file stands.
 #[derive(Clone, Copy, Debug, PartialEq, Eq, Drop)]
@@ -81,7 +82,7 @@ impl Span {
         requires some { 1 ≤ length }
         ensures { result ≡ fits self.end place length }
     {
-        266 <= place && place <= self.end && length <= self.end - place + 1
+        FILE_HEAD_LENGTH as u64 <= place && place <= self.end && length <= self.end - place + 1
     }
 
     /// Whether so many more bytes fit beside those of all extents found so far.
@@ -97,6 +98,6 @@ impl Span {
     pub fn node_length(self) -> usize
         ensures { result ≡ node_length self.wide }
     {
-        if self.wide { 342 } else { 246 }
+        node_length(self.wide)
     }
 }

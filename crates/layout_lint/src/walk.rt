@@ -11,14 +11,16 @@ ghost use Rattle.layout_lint.specs.Walks.{IsSearch, IsFound, EndsWalk, KeepsNode
 ghost use Rattle.layout_lint.specs.Shapes.{IsSteady, IsWhole, IsGoing, MayFollow, met_place};
 
 use crate::chunks::add_extent;
-use crate::head::{FILE_HEAD_LENGTH, Head};
+use crate::head::Head;
 use crate::keys::KeySet;
 use crate::look::{Next, look};
 use crate::node::Met;
 use crate::pages::Page;
 use crate::stack::{Family, child_of, take_next};
 use crate::verdict::{Halt, NodePlace, Span};
+use adf_format::fields::{FREE_TABLE_LENGTH, FREE_TABLE_PLACE, HEADER_LENGTH};
 use adf_format::{Extent, ExtentKind};
+use adf_records::FILE_HEAD_LENGTH;
 use cg_io::Blocks;
 use std::alloc::Global;
 
@@ -57,14 +59,19 @@ fn start(alloc: Global) -> Result<Search, Halt>
     ensures want { IfErr result IsWant }
 {
     let mut extents = Vec::new(alloc);
-    add_extent(&mut extents, ExtentKind::Header, 0, 186)?;
-    add_extent(&mut extents, ExtentKind::FreeTable, 186, 80)?;
+    add_extent(&mut extents, ExtentKind::Header, 0, HEADER_LENGTH as u64)?;
+    add_extent(
+        &mut extents,
+        ExtentKind::FreeTable,
+        FREE_TABLE_PLACE as u64,
+        FREE_TABLE_LENGTH as u64,
+    )?;
     Ok(Search {
         families: Vec::new(alloc),
         nodes: Vec::new(alloc),
         places: KeySet::new(alloc),
         extents,
-        used: FILE_HEAD_LENGTH,
+        used: FILE_HEAD_LENGTH as u64,
     })
 }
 

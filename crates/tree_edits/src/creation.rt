@@ -22,7 +22,7 @@ use crate::room::find_room;
 use crate::rows::Row;
 use adf_format::DataType;
 use adf_model::{AdfError, NodeId};
-use adf_records::{NodeHeader, encode_node, encode_wide};
+use adf_records::{NodeHeader, encode_node, encode_wide, node_length};
 use cg_io::Space;
 use disk_ptr::DiskPtr;
 use field_access::write_field;
@@ -86,13 +86,6 @@ fn write_header<S: Space>(space: &mut S, place: u64, header: &NodeHeader) -> Res
     }
 }
 
-// How many bytes a header has.
-fn header_length(wide: bool) -> u64
-    ensures { result ≡ node_length wide }
-{
-    if wide { 342 } else { 246 }
-}
-
 // Takes room for the header of a new node, and writes it: its place.
 fn make_header<S: Space>(
     space: &mut S,
@@ -116,7 +109,7 @@ fn make_header<S: Space>(
         (IsRoomless (LacksBytes heap.old.limit (node_length wide) heap.old.work.heap)
         (IsUntold (S.image space.old))) space.old space.new result }
 {
-    let place = match heap.take(space, header_length(wide)) {
+    let place = match heap.take(space, node_length(wide) as u64) {
         Ok(place) => place,
         Err(error) => return Err(error),
     };

@@ -6,6 +6,7 @@ ghost use Rattle.adf_format.specs.RecordFields.{node_length};
 ghost use Rattle.tree_edits.specs.Rows.{AreNear, row_of};
 ghost use Rattle.tree_edits.specs.Undo.{put_back};
 
+use adf_records::node_length;
 use std::alloc::{AllocError, Global};
 use std::marker::Model;
 
@@ -158,9 +159,8 @@ fn is_near(row: Option<Row>, wide: bool) -> bool
     ensures may { IsTrue result → IfSome row (λ r. r.place + node_length wide ≤ 2 ^ 44) }
     ensures must { IfSome row (λ r. r.place + node_length wide ≤ 2 ^ 44) → IsTrue result }
 {
-    let length: u64 = if wide { 342 } else { 246 };
     match row {
-        Some(row) => row.place <= (1 << 44) - length,
+        Some(row) => row.place <= (1 << 44) - node_length(wide) as u64,
         None => true,
     }
 }

@@ -1,16 +1,23 @@
 //! A space for tests: bytes in memory that tell nothing, and whose k-th call fails.
+
+#![tactic(auto)]
+
 ghost use Rattle.std.specs.Prelude.{◌≡◌, ◌≤◌, ◌^◌, ◌+◌, length};
 
 use cg_io::{ReadBytes, ReadFault, Space, SpaceFault};
 use std::alloc::{AllocError, Global};
 
+/// Bytes in memory that tell nothing.
 #[derive(Drop)]
 pub struct Bytes {
     held: Vec<u8>,
+    /// How many calls were made.
     pub calls: u64,
+    /// The number of the call that fails, counted from 1; 0 for none.
     pub failing: u64,
-    // what is wanting where a write fails: memory, or the device
+    /// Whether memory is wanting where a write fails, and not the device below.
     pub memory: bool,
+    /// How often the device below failed.
     pub faults: u64,
 }
 
@@ -39,10 +46,22 @@ impl Bytes {
 
     /// Puts bytes at a place, and tells whether there was room.
     pub fn put(&mut self, at: u64, bytes: &[u8]) -> bool {
-        if at >= 1 << 20 || bytes.len() >= 1 << 20 {
+        if at >= 1 << 24 || bytes.len() >= 1 << 24 {
             return false;
         }
         overwrite(&mut self.held, at as usize, bytes).is_ok()
+    }
+
+    /// So many bytes at a place, by one call.
+    pub fn bytes_at<const N: usize>(&mut self, at: u64) -> Option<[u8; N]> {
+        if at >= 1 << 24 || N >= 1 << 20 {
+            return None;
+        }
+        let mut bytes = [0u8; N];
+        match self.read(at, &mut bytes) {
+            Ok(()) => Some(bytes),
+            Err(_) => None,
+        }
     }
 
     /// Whether these bytes stand at a place.

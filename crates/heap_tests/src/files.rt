@@ -1,7 +1,7 @@
-//! Spaces for tests: bytes in memory, and files made by hand with the encoders.
+//! Files made by hand with the encoders.
 //!
 //! Room for a whole file is asked for before it is made, so that making it allocates once.
-ghost use Rattle.std.specs.Prelude.{◌≡◌, ◌≤◌, ◌^◌, ◌<◌, ◌+◌, false, length};
+ghost use Rattle.std.specs.Prelude.{◌≡◌, ◌^◌, ◌<◌, false};
 ghost use Rattle.adf_records.specs.View.{HasOffsets, HasFreeOffsets};
 ghost use Rattle.disk_ptr.specs.View.{HasOffset};
 
@@ -11,136 +11,10 @@ use adf_chunks::{
 };
 use adf_format::{DataType, Format};
 use adf_records::{FileHeader, FreeTable, NodeHeader, encode_free, encode_header, encode_node};
-use cg_io::{ReadBytes, ReadFault, Space, SpaceFault};
 use disk_ptr::{DiskPtr, from_place};
 use std::alloc::{AllocError, Global};
 use std::test::Fail;
-
-/// Bytes in memory that tell nothing, and whose k-th call fails.
-#[derive(Drop)]
-pub struct Bytes {
-    held: Vec<u8>,
-    pub calls: u64,
-    pub failing: u64,
-    // what is wanting where a write fails: memory, or the device
-    pub memory: bool,
-    pub faults: u64,
-}
-
-impl Bytes {
-    // No bytes, and room for so many.
-    fn with_room(alloc: Global, length: usize) -> Result<Bytes, AllocError> {
-        Ok(Bytes {
-            held: Vec::with_capacity(alloc, length)?,
-            calls: 0,
-            failing: 0,
-            memory: false,
-            faults: 0,
-        })
-    }
-
-    /// The same bytes, of which no call fails.
-    pub fn copy(&self, alloc: Global) -> Result<Bytes, AllocError> {
-        Ok(Bytes {
-            held: self.held.to_vec(alloc)?,
-            calls: 0,
-            failing: 0,
-            memory: false,
-            faults: 0,
-        })
-    }
-
-    /// Puts bytes at a place, and tells whether there was room.
-    pub fn put(&mut self, at: u64, bytes: &[u8]) -> bool {
-        if at >= 1 << 20 || bytes.len() >= 1 << 20 {
-            return false;
-        }
-        overwrite(&mut self.held, at as usize, bytes).is_ok()
-    }
-
-    /// So many bytes at a place.
-    pub fn bytes_at<const N: usize>(&mut self, at: u64) -> Option<[u8; N]> {
-        if at >= 1 << 20 || N >= 1 << 20 {
-            return None;
-        }
-        let mut bytes = [0u8; N];
-        match self.read(at, &mut bytes) {
-            Ok(()) => Some(bytes),
-            Err(_) => None,
-        }
-    }
-
-    // Counts a call, and whether it is to fail.
-    fn fails(&mut self) -> bool
-        ensures { self.new.faults ≡ self.old.faults }
-    {
-        self.calls = self.calls.saturating_add(1);
-        self.calls == self.failing
-    }
-}
-
-impl ReadBytes for Bytes {
-    ghost use Rattle.std.specs.Prelude.{None};
-
-    ghost image = { λ _. None };
-
-    ghost state = { λ s. record {
-      held = None;
-      faults = s.faults;
-      lost = 0;
-      reads = 0;
-      writes = 0;
-    } };
-
-    ghost is_sound = { λ _. Unit {0} };
-
-    ghost waiting = { λ _. 0 };
-
-    fn read(&mut self, place: u64, into: &mut [u8]) -> Result<(), ReadFault> {
-        if self.fails() {
-            self.faults = self.faults.saturating_add(1);
-            return Err(ReadFault);
-        }
-        let mut at = place as usize;
-        for b in into.iter_mut() {
-            *b = self.held.get(at).copied().unwrap_or(0);
-            at = at.saturating_add(1);
-        }
-        Ok(())
-    }
-}
-
-impl Space for Bytes {
-    fn write(&mut self, place: u64, from: &[u8]) -> Result<(), SpaceFault> {
-        if self.fails() {
-            if self.memory {
-                return Err(SpaceFault::Memory);
-            }
-            self.faults = self.faults.saturating_add(1);
-            return Err(SpaceFault::Read);
-        }
-        match overwrite(&mut self.held, place as usize, from) {
-            Ok(()) => Ok(()),
-            Err(_) => Err(SpaceFault::Memory),
-        }
-    }
-}
-
-// Puts bytes at a place.
-fn overwrite(held: &mut Vec<u8>, at: usize, from: &[u8]) -> Result<(), AllocError>
-    requires { at + length from.now ≤ 2 ^ 45 }
-{
-    let end = at + from.len();
-    if held.len() < end {
-        held.resize(end, 0)?;
-    }
-    for (i, b) in from.iter().enumerate() {
-        if at + i < held.len() {
-            held[at + i] = *b;
-        }
-    }
-    Ok(())
-}
+use test_spaces::Bytes;
 
 fn near(at: u64) -> DiskPtr
     requires { at < 2 ^ 44 }
