@@ -7,6 +7,7 @@ use Rattle.adf_format.specs.RuleNumbers.{IsRule}
 pub use Rattle.adf_model.specs.Counts.{OnlyReads}
 use Rattle.cg_io.specs.Cause.{Rose}
 use Rattle.cg_io.specs.Device.{DeviceState}
+use Rattle.cg_io.specs.Waits.{how_many}
 
 -- ---- causes of a refusal
 
@@ -25,7 +26,7 @@ IsRefusal unread before now other = ⊥
 
 -- A call that reads: what is kept is sound, the bytes and the blocks that wait stay, the device is left by Effect (as ReadsFew n
 -- or OnlyReads), and a refusal has its cause.
-pub record AnswersRead {S T E : Type 0} (is_sound : S → Type 0) (image : S → Option (List ℕ)) (state : S → DeviceState) (waiting : S → ℕ)
+pub record AnswersRead {S T E : Type 0} (is_sound : S → Type 0) (image : S → Option (List ℕ)) (state : S → DeviceState) (waiting : S → List ℕ)
     (Effect : DeviceState → DeviceState → Type 0) (Cause : ℕ → ℕ → E → Type 0) (old new : S) (result : Result T E) : Type 0 where
   pub sound : is_sound new
   pub bytes : image new ≡ image old
@@ -34,10 +35,10 @@ pub record AnswersRead {S T E : Type 0} (is_sound : S → Type 0) (image : S →
   pub cause : IfErr result (Cause (state old).faults (state new).faults)
 
 -- A call that writes: the same, but that the bytes are another clause's, and that n blocks more may wait.
-pub record AnswersWrite {S T E : Type 0} (is_sound : S → Type 0) (state : S → DeviceState) (waiting : S → ℕ) (n : ℕ)
+pub record AnswersWrite {S T E : Type 0} (is_sound : S → Type 0) (state : S → DeviceState) (waiting : S → List ℕ) (n : ℕ)
     (Effect : DeviceState → DeviceState → Type 0) (Cause : ℕ → ℕ → E → Type 0) (old new : S) (result : Result T E) : Type 0 where
   pub sound : is_sound new
-  pub waits : waiting new ≤ waiting old + n
+  pub waits : how_many (waiting new) ≤ how_many (waiting old) + n
   pub effect : Effect (state old) (state new)
   pub cause : IfErr result (Cause (state old).faults (state new).faults)
 

@@ -2,6 +2,7 @@
 ghost use Rattle.std.specs.Prelude.{◌≡◌, ◌^◌, ◌+◌, ◌≤◌, length, IfOk, OnOk};
 ghost use Rattle.cg_io.specs.Device.{GivesAt};
 ghost use Rattle.cg_io.specs.Blocks.{ReadsFew, blocks_of, Both, Wrote, KeepsOutside};
+ghost use Rattle.cg_io.specs.Waits.{IsTouched, WaitsOnly};
 ghost use Rattle.cg_io.specs.Answers.{AnswersRead, AnswersWrite, HasRisen, IsRefusal};
 
 use crate::{ReadBytes, ReadFault, Space, SpaceFault};
@@ -37,6 +38,8 @@ pub fn write_bytes<S: Space>(space: &mut S, place: u64, from: &[u8]) -> Result<(
         (S.image space.new) }
     ensures writes { AnswersWrite S.is_sound S.state S.waiting (blocks_of place (length from.now))
         (ReadsFew (blocks_of place (length from.now))) (IsRefusal ⊥) space.old space.new result }
+    ensures only { WaitsOnly (IsTouched place (length from.now)) (S.waiting space.old)
+        (S.waiting space.new) }
 {
     match space.write(place, from) {
         Ok(()) => Ok(()),

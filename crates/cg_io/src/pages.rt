@@ -1,5 +1,5 @@
 // Blocks as bytes by their places.
-ghost use Rattle.std.specs.Prelude.{◌≡◌, ◌^◌, ◌+◌, ◌≤◌, length, None, IfOk, IfErr, IfSome, OnOk};
+ghost use Rattle.std.specs.Prelude.{◌≡◌, ◌^◌, ◌+◌, ◌≤◌, [], length, None, IfOk, IfErr, IfSome, OnOk};
 ghost use Rattle.cg_io.specs.Device.{Gives};
 ghost use Rattle.cg_io.specs.Blocks.{ReadsFew};
 ghost use Rattle.cg_io.specs.Answers.{AnswersRead, HasRisen};
@@ -50,7 +50,7 @@ impl<B: Blocks> Pages<B> {
         ensures told { IfOk result (λ n. IfSome (held_under B.state self.old) (λ bytes. n
             ≡ length bytes)) }
         ensures reads { AnswersRead (ArePages B.is_sound B.state) (held_under B.state)
-            (state_under B.state) (λ _. 0) (ReadsFew 1) HasRisen self.old self.new result }
+            (state_under B.state) (λ _. []) (ReadsFew 1) HasRisen self.old self.new result }
     {
         match self.blocks.length() {
             Ok(n) => Ok(n),
@@ -94,7 +94,7 @@ impl<B: Blocks> ReadBytes for Pages<B> {
 
     ghost is_sound = { λ p. ArePages B.is_sound B.state p };
 
-    ghost waiting = { λ _. 0 };
+    ghost waiting = { λ _. [] };
 
     fn read(&mut self, place: u64, into: &mut [u8]) -> Result<(), ReadFault> {
         let mut done = 0;

@@ -3,6 +3,7 @@ ghost use Rattle.std.specs.Prelude.{◌≡◌, ℕ, List, Option, ◌^◌, ◌+�
 ghost use Rattle.cg_io.specs.Cause.{Rose};
 ghost use Rattle.cg_io.specs.Device.{DeviceState, GivesAt};
 ghost use Rattle.cg_io.specs.Blocks.{ReadsFew, blocks_of, Both, Wrote, KeepsOutside};
+ghost use Rattle.cg_io.specs.Waits.{how_many, IsTouched, WaitsOnly};
 ghost use Rattle.cg_io.specs.Answers.{AnswersRead, HasRisen};
 
 use adf_model::AdfError;
@@ -33,8 +34,8 @@ pub trait ReadBytes: Drop {
     /// What it keeps beside the device agrees with it.
     ghost is_sound: { Self → Type 0 };
 
-    /// How many blocks wait to be written to the device.
-    ghost waiting: { Self → ℕ };
+    /// The blocks that wait to be written to the device, by their numbers.
+    ghost waiting: { Self → List ℕ };
 
     /// The bytes from a place on, zeros past the end, by at most one read of the device for each block that the range touches.
     /// After a fault `into` has any bytes.
@@ -71,6 +72,8 @@ pub trait Space: ReadBytes {
             (Self.state self.new) }
         ensures cause { IfErr result (λ e. e ≡ SpaceFault.Read
             → Rose (Self.state self.old).faults (Self.state self.new).faults) }
-        ensures waiting { Self.waiting self.new
-            ≤ Self.waiting self.old + blocks_of place (length from.now) };
+        ensures waiting { how_many (Self.waiting self.new)
+            ≤ how_many (Self.waiting self.old) + blocks_of place (length from.now) }
+        ensures only { WaitsOnly (IsTouched place (length from.now)) (Self.waiting self.old)
+            (Self.waiting self.new) };
 }
