@@ -94,7 +94,7 @@ patches old new n was made sized found writes = let updates = writes.3 (rw found
 }
 
 -- no block below all changed ones is changed
-below_none : (es : List (ℕ × List ℕ)) (n : ℕ) → AllByRecursion (λ m. nat_cmp n m ≡ Less) (keys_of es) → block_in es n ≡ None
+pub below_none : (es : List (ℕ × List ℕ)) (n : ℕ) → AllByRecursion (λ m. nat_cmp n m ≡ Less) (keys_of es) → block_in es n ≡ None
 below_none [] n below = refl
 below_none (e ∷ es) n below = let less = below.0 in rw less (below_none es n below.1)
 

@@ -1,3 +1,4 @@
 pub mod Image
 pub mod Spaces
 pub mod Counts
+pub mod Waits

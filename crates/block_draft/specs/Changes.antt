@@ -9,6 +9,7 @@ use Rattle.std.specs.List.Sorted.{IsStrictlySortedBy}
 use Rattle.cg_io.specs.Cause.{raised}
 use Rattle.cg_io.specs.Device.{overwritten, with_block, Tears}
 use Rattle.cg_io.specs.Blocks.{blocks_of}
+use Rattle.cg_io.specs.Waits.{IsTouched}
 
 -- the bytes with these blocks written, one after another
 abbrev pub with_changes : List ℕ → List (ℕ × List ℕ) → List ℕ
@@ -62,5 +63,5 @@ pub record ChangesOnly (n : ℕ) (old new : List (ℕ × List ℕ)) : Type 0 whe
 
 -- only blocks that a range touches are changed anew, or otherwise
 pub record ChangesWithin (place len : ℕ) (old new : List (ℕ × List ℕ)) : Type 0 where
-  pub outside : (m : ℕ) → (m * 4096 + 4096 ≤ place) ⊎ (place + len ≤ m * 4096) → block_in new m ≡ block_in old m
+  pub outside : (m : ℕ) → (IsTouched place len m → ⊥) → block_in new m ≡ block_in old m
   pub few : length new ≤ length old + blocks_of place len

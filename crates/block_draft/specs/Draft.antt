@@ -1,5 +1,6 @@
 -- What a draft is made of.
-use Rattle.std.specs.Prelude.{ℕ, List, length, Option}
+use Rattle.std.specs.Prelude.{ℕ, List, Option}
+use Rattle.std.specs.Map.{keys_of}
 use Rattle.cg_io.specs.Device.{DeviceState}
 use Rattle.block_draft.specs.Changes.{image_of}
 use Rattle.block_draft.specs.declared.draft.Draft.{Draft}
@@ -12,9 +13,9 @@ blocks_below draft = draft.blocks
 abbrev pub changes_in : {B : Type 0} → Draft B → List (ℕ × List ℕ)
 changes_in draft = draft.changed
 
--- how many of them there are, which wait for a commit
-abbrev pub waiting_in : {B : Type 0} → Draft B → ℕ
-waiting_in draft = length (changes_in draft)
+-- the numbers of those that wait for a commit
+abbrev pub waiting_in : {B : Type 0} → Draft B → List ℕ
+waiting_in draft = keys_of (changes_in draft)
 
 -- what holds of the blocks below, and the device below them
 abbrev pub is_sound_below : {B : Type 0} → (B → Type 0) → Draft B → Type 0

@@ -3,6 +3,7 @@ ghost use Rattle.std.specs.Prelude.{◌≡◌, ◌^◌, ◌+◌, ◌*◌, ◌≤
 ghost use Rattle.cg_io.specs.Cause.{HasCause, Rose};
 ghost use Rattle.cg_io.specs.Device.{Gives, GivesAt};
 ghost use Rattle.cg_io.specs.Blocks.{ReadsFew, blocks_of, Both, Wrote, KeepsOutside};
+ghost use Rattle.cg_io.specs.Waits.{how_many, IsTouched, WaitsOnly};
 ghost use Rattle.block_draft.specs.Changes.{image_of, raised_by, IsPartWritten, AreChanges, ChangesOnly, ChangesWithin};
 ghost use Rattle.block_draft.specs.Draft.{blocks_below, changes_in, waiting_in, shown_in, state_below, is_sound_below};
 ghost use Rattle.cg_io.specs.Answers.{AnswersRead, HasRisen};
@@ -45,7 +46,7 @@ impl<B: Blocks> Draft<B> {
 
     /// How many blocks are changed.
     pub fn changed(&self) -> usize
-        ensures { result ≡ waiting_in self.now }
+        ensures { result ≡ length (changes_in self.now) }
     {
         self.changed.len()
     }
@@ -64,6 +65,7 @@ impl<B: Blocks> Draft<B> {
     ///
     /// Where a write fails it stops: the blocks before that one are written, that one has any bytes, and what was to be
     /// written after it is dropped.
+    #[tactic(auto, using(crate::proofs::Waits::many_wait))]
     pub fn commit(&mut self) -> Result<(), BlockFault>
         requires { B.is_sound (blocks_below self.old) }
         ensures sound { B.is_sound (blocks_below self.new) }
@@ -76,7 +78,7 @@ impl<B: Blocks> Draft<B> {
             (B.state (blocks_below self.new)).held (B.state (blocks_below self.new)).writes) }
         ensures ascend { AreChanges (changes_in self.old) }
         ensures few { (B.state (blocks_below self.new)).writes
-            ≤ (B.state (blocks_below self.old)).writes + waiting_in self.old }
+            ≤ (B.state (blocks_below self.old)).writes + how_many (waiting_in self.old) }
         ensures empty { changes_in self.new ≡ [] }
         ensures reads { (B.state (blocks_below self.new)).reads
             ≡ (B.state (blocks_below self.old)).reads }
@@ -230,6 +232,7 @@ impl<B: Blocks> ReadBytes for Draft<B> {
 impl<B: Blocks> Space for Draft<B> {
     /// Writes over the bytes from a place on, in the draft alone. It changes no block but those that the range touches, and
     /// takes the room for them.
+    #[tactic(auto, using(crate::proofs::Counts::within_more, crate::proofs::Waits::waits_within, crate::proofs::Waits::counts_within))]
     fn write(&mut self, place: u64, from: &[u8]) -> Result<(), SpaceFault>
         requires sound { B.is_sound (blocks_below self.old) }
         requires within { place + length from.now ≤ 2 ^ 44 }
@@ -243,8 +246,10 @@ impl<B: Blocks> Space for Draft<B> {
         ensures cause { IfErr result (λ e. e ≡ SpaceFault.Read
             → Rose (B.state (blocks_below self.old)).faults
             (B.state (blocks_below self.new)).faults) }
-        ensures waiting { waiting_in self.new ≤ waiting_in self.old
+        ensures waiting { how_many (waiting_in self.new) ≤ how_many (waiting_in self.old)
             + blocks_of place (length from.now) }
+        ensures only { WaitsOnly (IsTouched place (length from.now)) (waiting_in self.old)
+            (waiting_in self.new) }
         ensures changed { ChangesWithin place (length from.now) (changes_in self.old)
             (changes_in self.new) }
     {
