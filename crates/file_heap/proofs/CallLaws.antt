@@ -30,6 +30,7 @@ use Rattle.file_heap.proofs.HeapFacts.{heap_gaps, gaps_apart}
 use Rattle.file_heap.proofs.OrderLaws.{given_is_heap, cut_is_heap, grown_is_heap}
 use Rattle.file_heap.proofs.TakeLaws.{taken_within, taken_covers}
 use Rattle.file_heap.proofs.SpaceLaws.{kept_threads, end_stays, fillers_stay}
+use Rattle.cg_io.specs.Waits.{how_many}
 
 abbrev pub heap_of : List Extent → ℕ → Heap
 heap_of gaps end = record { gaps = gaps; end = end }
@@ -171,11 +172,11 @@ none_first : (gaps : List Extent) (image : Option (List ℕ)) → IfSome image (
 none_first gaps None = tt
 none_first gaps (Some bytes) = λ place n lt. absurd (omega (arith, lt))
 
-module _ {S : Type 0} (is_sound : S → Type 0) (image : S → Option (List ℕ)) (state : S → DeviceState) (waiting : S → ℕ) (slots : List Slot) (end : ℕ) (kept : FreeSpace) (limit : ℕ) (old new : S) (h : IsHeap (heap_of (gaps_of slots) end)) (sound : is_sound new)
+module _ {S : Type 0} (is_sound : S → Type 0) (image : S → Option (List ℕ)) (state : S → DeviceState) (waiting : S → List ℕ) (slots : List Slot) (end : ℕ) (kept : FreeSpace) (limit : ℕ) (old new : S) (h : IsHeap (heap_of (gaps_of slots) end)) (sound : is_sound new)
     (th : IfSome (image old) (ThreadsSlots (gaps_of slots) slots)) where
   -- a take behind the end
   pub grown_leaves : (n last : ℕ) (r : Result ℕ AdfError) → limit ≤ 2 ^ 32 → Grows limit n end r last → OnOk r (Both KeepsThreads (image old) (image new)) → Both (ChangesOnly (end_pointer ∷ [])) (image old) (image new)
-      → OnOk r (Both (MovesEnd end last) (image old) (image new)) → ReadsFew 2 (state old) (state new) → waiting new ≤ waiting old + 1 → IfErr r (IsTakeRefusal (IsUntold (image old)) (state old).faults (state new).faults)
+      → OnOk r (Both (MovesEnd end last) (image old) (image new)) → ReadsFew 2 (state old) (state new) → how_many (waiting new) ≤ how_many (waiting old) + 1 → IfErr r (IsTakeRefusal (IsUntold (image old)) (state old).faults (state new).faults)
       → ChangesHeap is_sound image state waiting [] 9 (IsTakeRefusal (IsUntold (image old))) (state_of slots end kept limit) (state_of slots last kept limit) old new r
   grown_leaves n last r most grows keeps c moves effect waits cause = record {
     kept = refl;
@@ -199,7 +200,7 @@ module _ {S : Type 0} (is_sound : S → Type 0) (image : S → Option (List ℕ)
   -- other gaps in place of those that were there
   pub others_leave : {T : Type 0} (r : Result T AdfError) (becomes : List Extent) (after : List Slot) (given : List Extent) (n most : ℕ) (Cause : ℕ → ℕ → AdfError → Type 0) → OnOk r (BecomeSlots becomes slots after (image old) (image new)) → OnErr r (after ≡ slots)
       → IsHeap (heap_of (gaps_of after) end) → pairs (gaps_of after) ≤ pairs (gaps_of slots) → IsWithin (free_table ∷ given ++ gaps_of slots) (heap_fields ++ given ++ gaps_of slots) → MeetsNone HEADER_END.offset HEADER_END.length (free_table ∷ given ++ gaps_of slots)
-      → Both (ChangesOnly (free_table ∷ given ++ gaps_of slots)) (image old) (image new) → n ≤ 64 → ReadsFew n (state old) (state new) → waiting new ≤ waiting old + most → IfErr r (Cause (state old).faults (state new).faults)
+      → Both (ChangesOnly (free_table ∷ given ++ gaps_of slots)) (image old) (image new) → n ≤ 64 → ReadsFew n (state old) (state new) → how_many (waiting new) ≤ how_many (waiting old) + most → IfErr r (Cause (state old).faults (state new).faults)
       → ChangesHeap is_sound image state waiting given most Cause (state_of slots end kept limit) (state_of after end kept limit) old new r
   others_leave r becomes after given n most Cause b stays heap fewer within apart c few effect waits cause = record {
     kept = refl;
@@ -254,10 +255,10 @@ module _ (n i limit end : ℕ) (slots after : List Slot) (a b : Option (List ℕ
   pub taken_heap : 1 ≤ n → IsHeap (heap_of (gaps_of slots) end) → IsHeap (heap_of (gaps_of after) end)
   taken_heap some h = cut_heap n (gaps_of slots) (gaps_of after) end i r some fit (becomes_are r (cut n (gaps_of slots)) slots after a b w) (stays_gaps r slots after stays) h
 
-pub taken_leaves : {S : Type 0} (is_sound : S → Type 0) (image : S → Option (List ℕ)) (state : S → DeviceState) (waiting : S → ℕ) (slots after : List Slot) (end : ℕ) (kept : FreeSpace) (limit n i : ℕ) (old new : S) (r : Result ℕ AdfError) → 1 ≤ n
+pub taken_leaves : {S : Type 0} (is_sound : S → Type 0) (image : S → Option (List ℕ)) (state : S → DeviceState) (waiting : S → List ℕ) (slots after : List Slot) (end : ℕ) (kept : FreeSpace) (limit n i : ℕ) (old new : S) (r : Result ℕ AdfError) → 1 ≤ n
     → IsHeap (heap_of (gaps_of slots) end) → is_sound new → IfSome (image old) (ThreadsSlots (gaps_of slots) slots) → IsFirstFit n (gaps_of slots) i → IfOk r (λ place. place ≡ (gap_at (gaps_of slots) i).place)
     → OnOk r (BecomeSlots (cut n (gaps_of slots)) slots after (image old) (image new)) → OnErr r (after ≡ slots) → Both (ChangesOnly (free_table ∷ filter is_free (gaps_of slots))) (image old) (image new) → ReadsFew 16 (state old) (state new)
-    → waiting new ≤ waiting old + 9 → IfErr r (IsRefusal (IsUntold (image old)) (state old).faults (state new).faults)
+    → how_many (waiting new) ≤ how_many (waiting old) + 9 → IfErr r (IsRefusal (IsUntold (image old)) (state old).faults (state new).faults)
     → ChangesHeap is_sound image state waiting [] 9 (IsTakeRefusal (IsUntold (image old))) (state_of slots end kept limit) (state_of after end kept limit) old new r
 taken_leaves is_sound image state waiting slots after end kept limit n i old new r some h sound th fit at w stays c effect waits cause =
     others_leave is_sound image state waiting slots end kept limit old new h sound th r (cut n (gaps_of slots)) after [] 16 9 (IsTakeRefusal (IsUntold (image old))) w stays
@@ -275,9 +276,9 @@ module _ (place n end : ℕ) (slots after : List Slot) (a b : Option (List ℕ))
   pub gift_heap : 1 ≤ n → MeetsNone place n (gaps_of slots) → 266 ≤ place → place + n ≤ end + 1 → IsHeap (heap_of (gaps_of slots) end) → IsHeap (heap_of (gaps_of after) end)
   gift_heap some none low high h = given_heap place n (gaps_of slots) (gaps_of after) end r some none low high gift_is (stays_gaps r slots after stays) h
 
-pub given_leaves : {S : Type 0} (is_sound : S → Type 0) (image : S → Option (List ℕ)) (state : S → DeviceState) (waiting : S → ℕ) (slots after : List Slot) (end : ℕ) (kept : FreeSpace) (limit place n : ℕ) (old new : S) (r : Result (Unit {0}) AdfError) → 1 ≤ n → MeetsNone place n (gaps_of slots)
+pub given_leaves : {S : Type 0} (is_sound : S → Type 0) (image : S → Option (List ℕ)) (state : S → DeviceState) (waiting : S → List ℕ) (slots after : List Slot) (end : ℕ) (kept : FreeSpace) (limit place n : ℕ) (old new : S) (r : Result (Unit {0}) AdfError) → 1 ≤ n → MeetsNone place n (gaps_of slots)
     → 266 ≤ place → place + n ≤ end + 1 → IsHeap (heap_of (gaps_of slots) end) → is_sound new → IfSome (image old) (ThreadsSlots (gaps_of slots) slots) → OnOk r (BecomeSlots (give_joined place n (gaps_of slots)) slots after (image old) (image new)) → OnErr r (after ≡ slots)
-    → Both (ChangesOnly (free_table ∷ range place n ∷ gaps_of slots)) (image old) (image new) → ReadsFew 22 (state old) (state new) → waiting new ≤ waiting old + 12 → IfErr r (IsRefusal (IsUntold (image old)) (state old).faults (state new).faults)
+    → Both (ChangesOnly (free_table ∷ range place n ∷ gaps_of slots)) (image old) (image new) → ReadsFew 22 (state old) (state new) → how_many (waiting new) ≤ how_many (waiting old) + 12 → IfErr r (IsRefusal (IsUntold (image old)) (state old).faults (state new).faults)
     → ChangesHeap is_sound image state waiting (range place n ∷ []) 12 (IsRefusal (IsUntold (image old))) (state_of slots end kept limit) (state_of after end kept limit) old new r
 given_leaves is_sound image state waiting slots after end kept limit place n old new r some none low high h sound th w stays c effect waits cause =
     others_leave is_sound image state waiting slots end kept limit old new h sound th r (give_joined place n (gaps_of slots)) after (range place n ∷ []) 22 12 (IsRefusal (IsUntold (image old))) w stays

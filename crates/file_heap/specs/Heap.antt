@@ -87,7 +87,7 @@ KeepsThreads old new = (gaps : List Extent) (slots : List Slot) → AreApart gap
 
 -- What calls of the heap change that take a range from the gaps or give one to them: a refusal leaves the free space, and its bytes
 -- change only in the end pointer, in the free table, in the gaps and in what is given.
-pub record ChangesHeap {S T : Type 0} (is_sound : S → Type 0) (image : S → Option (List ℕ)) (state : S → DeviceState) (waiting : S → ℕ) (given : List Extent) (most : ℕ)
+pub record ChangesHeap {S T : Type 0} (is_sound : S → Type 0) (image : S → Option (List ℕ)) (state : S → DeviceState) (waiting : S → List ℕ) (given : List Extent) (most : ℕ)
     (Cause : ℕ → ℕ → AdfError → Type 0) (before after : HeapState) (old new : S) (result : Result T AdfError) : Type 0 where
   pub kept : after.kept ≡ before.kept
   pub limit : after.limit ≡ before.limit

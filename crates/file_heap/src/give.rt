@@ -2,6 +2,7 @@
 ghost use Rattle.std.specs.Prelude.{◌≡◌, ◌^◌, ◌+◌, ◌≤◌, ◌<◌, ◌∷◌, [], length, filter, remove, IfOk, IfErr, IfSome};
 ghost use Rattle.cg_io.specs.Blocks.{Both, ReadsFew};
 ghost use Rattle.cg_io.specs.Answers.{IsRefusal, IsUntold};
+ghost use Rattle.cg_io.specs.Waits.{how_many};
 ghost use Rattle.adf_format.specs.Tiles.{is_free, MeetsNone};
 ghost use Rattle.adf_format.specs.HeapRule.{new_gap, give_joined};
 ghost use Rattle.gap_tree.specs.Slots.{gaps_of};
@@ -40,7 +41,7 @@ pub(crate) fn absorb<S: Space>(
     ensures bytes { Both (ChangesOnly (free_table ∷ filter is_free (gaps_of slots.now.value)))
         (S.image space.old) (S.image space.new) }
     ensures effect { ReadsFew 6 (S.state space.old) (S.state space.new) }
-    ensures waiting { S.waiting space.new ≤ S.waiting space.old + 3 }
+    ensures waiting { how_many (S.waiting space.new) ≤ how_many (S.waiting space.old) + 3 }
     ensures cause { IfErr result (IsRefusal (IsUntold (S.image space.old))
         (S.state space.old).faults (S.state space.new).faults) }
 {
@@ -80,7 +81,7 @@ pub(crate) fn give_alone<S: Space>(
     ensures bytes { Both (ChangesOnly (free_table ∷ range place n ∷ []))
         (S.image space.old) (S.image space.new) }
     ensures effect { ReadsFew 10 (S.state space.old) (S.state space.new) }
-    ensures waiting { S.waiting space.new ≤ S.waiting space.old + 6 }
+    ensures waiting { how_many (S.waiting space.new) ≤ how_many (S.waiting space.old) + 6 }
     ensures cause { IfErr result (IsRefusal (IsUntold (S.image space.old))
         (S.state space.old).faults (S.state space.new).faults) }
 {
@@ -122,7 +123,7 @@ fn give_right<S: Space>(
     ensures bytes { Both (ChangesOnly (free_table ∷ range place n ∷ gaps_of slots.now.value))
         (S.image space.old) (S.image space.new) }
     ensures effect { ReadsFew 16 (S.state space.old) (S.state space.new) }
-    ensures waiting { S.waiting space.new ≤ S.waiting space.old + 9 }
+    ensures waiting { how_many (S.waiting space.new) ≤ how_many (S.waiting space.old) + 9 }
     ensures cause { IfErr result (IsRefusal (IsUntold (S.image space.old))
         (S.state space.old).faults (S.state space.new).faults) }
 {
@@ -158,7 +159,7 @@ pub(crate) fn give_range<S: Space>(
     ensures bytes { Both (ChangesOnly (free_table ∷ range place n ∷ gaps_of slots.now.value))
         (S.image space.old) (S.image space.new) }
     ensures effect { ReadsFew 22 (S.state space.old) (S.state space.new) }
-    ensures waiting { S.waiting space.new ≤ S.waiting space.old + 12 }
+    ensures waiting { how_many (S.waiting space.new) ≤ how_many (S.waiting space.old) + 12 }
     ensures cause { IfErr result (IsRefusal (IsUntold (S.image space.old))
         (S.state space.old).faults (S.state space.new).faults) }
 {

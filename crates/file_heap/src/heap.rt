@@ -2,6 +2,7 @@
 ghost use Rattle.std.specs.Prelude.{◌≡◌, ◌^◌, ◌+◌, ◌*◌, ◌≤◌, ◌<◌, ◌∷◌, [], length, filter, IfOk, IfErr, IfSome, OnOk, OnErr, IsTrue};
 ghost use Rattle.cg_io.specs.Blocks.{Both, ReadsFew};
 ghost use Rattle.cg_io.specs.Answers.{AnswersRead, IsRefusal, IsUntold};
+ghost use Rattle.cg_io.specs.Waits.{how_many};
 ghost use Rattle.adf_format.specs.Tiles.{is_free, MeetsNone};
 ghost use Rattle.adf_format.specs.LaysOut.{ThreadsFreeChunks};
 ghost use Rattle.adf_format.specs.HeapRule.{cut, give_joined, heap_give};
@@ -221,7 +222,7 @@ fn take_front<S: Space>(
         ∷ filter is_free (gaps_of (slots_in work.old kept.now.value))))
         (S.image space.old) (S.image space.new) }
     ensures effect { ReadsFew 16 (S.state space.old) (S.state space.new) }
-    ensures waiting { S.waiting space.new ≤ S.waiting space.old + 9 }
+    ensures waiting { how_many (S.waiting space.new) ≤ how_many (S.waiting space.old) + 9 }
     ensures cause { IfErr result (IsRefusal (IsUntold (S.image space.old))
         (S.state space.old).faults (S.state space.new).faults) }
 {
@@ -259,7 +260,7 @@ fn give_back<S: Space>(
     ensures bytes { Both (ChangesOnly (free_table ∷ range place n
         ∷ gaps_of (slots_in work.old kept.now.value))) (S.image space.old) (S.image space.new) }
     ensures effect { ReadsFew 22 (S.state space.old) (S.state space.new) }
-    ensures waiting { S.waiting space.new ≤ S.waiting space.old + 12 }
+    ensures waiting { how_many (S.waiting space.new) ≤ how_many (S.waiting space.old) + 12 }
     ensures cause { IfErr result (IsRefusal (IsUntold (S.image space.old))
         (S.state space.old).faults (S.state space.new).faults) }
 {

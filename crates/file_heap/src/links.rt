@@ -2,6 +2,7 @@
 ghost use Rattle.std.specs.Prelude.{◌≡◌, ℕ, ◌∷◌, [], ◌^◌, ◌+◌, ◌≤◌, IfOk, IfErr, OnOk};
 ghost use Rattle.cg_io.specs.Blocks.{Both, ReadsFew};
 ghost use Rattle.cg_io.specs.Answers.{IsRefusal};
+ghost use Rattle.cg_io.specs.Waits.{how_many};
 ghost use Rattle.disk_ptr.specs.View.{view, HasOffset};
 ghost use Rattle.adf_format.specs.Pointer.{pointer_text};
 ghost use Rattle.adf_format.specs.Spelled.{pointer_to, IsInReach};
@@ -79,8 +80,9 @@ pub(crate) fn write_link<S: Space>(
         (S.image space.old) (S.image space.new)) }
     ensures bytes { Both (ChangesOnly (range at 12 ∷ [])) (S.image space.old) (S.image space.new) }
     ensures effect { ReadsFew 2 (S.state space.old) (S.state space.new) }
-    ensures waiting { S.waiting space.new ≤ S.waiting space.old + 2 }
-    ensures near { at + 12 ≤ 4096 → S.waiting space.new ≤ S.waiting space.old + 1 }
+    ensures waiting { how_many (S.waiting space.new) ≤ how_many (S.waiting space.old) + 2 }
+    ensures near { at + 12 ≤ 4096 → how_many (S.waiting space.new)
+        ≤ how_many (S.waiting space.old) + 1 }
     ensures cause { IfErr result (IsRefusal ⊥ (S.state space.old).faults
         (S.state space.new).faults) }
 {

@@ -2,6 +2,7 @@
 ghost use Rattle.std.specs.Prelude.{None, ◌≡◌, ◌^◌, ◌+◌, ◌-◌, ◌≤◌, ◌<◌, ◌∷◌, [], length, Some, IfOk, IfErr, IfSome, OnOk, filter, true, IsTrue, ◌↔◌};
 ghost use Rattle.cg_io.specs.Blocks.{Both, ReadsFew};
 ghost use Rattle.cg_io.specs.Answers.{IsRefusal, IsUntold};
+ghost use Rattle.cg_io.specs.Waits.{how_many};
 ghost use Rattle.adf_format.specs.Spelled.{IsInReach};
 ghost use Rattle.adf_format.specs.Tiles.{is_free};
 ghost use Rattle.gap_tree.specs.Slots.{gaps_of};
@@ -36,7 +37,7 @@ fn end_list<S: Space>(
         (S.image space.old) (S.image space.new)) }
     ensures bytes { Both (ChangesOnly (free_table ∷ [])) (S.image space.old) (S.image space.new) }
     ensures effect { ReadsFew 2 (S.state space.old) (S.state space.new) }
-    ensures waiting { S.waiting space.new ≤ S.waiting space.old + 1 }
+    ensures waiting { how_many (S.waiting space.new) ≤ how_many (S.waiting space.old) + 1 }
     ensures cause { IfErr result (IsRefusal ⊥ (S.state space.old).faults
         (S.state space.new).faults) }
 {
@@ -58,7 +59,7 @@ fn relink<S: Space>(space: &mut S, spot: Spot, next: Option<u64>) -> Result<(), 
     ensures bytes { Both (ChangesOnly (free_table ∷ link_range spot.front))
         (S.image space.old) (S.image space.new) }
     ensures effect { ReadsFew 4 (S.state space.old) (S.state space.new) }
-    ensures waiting { S.waiting space.new ≤ S.waiting space.old + 3 }
+    ensures waiting { how_many (S.waiting space.new) ≤ how_many (S.waiting space.old) + 3 }
     ensures cause { IfErr result (IsRefusal ⊥ (S.state space.old).faults
         (S.state space.new).faults) }
 {
@@ -127,7 +128,7 @@ pub(crate) fn unlink<S: Space>(
     ensures bytes { Both (ChangesOnly (free_table ∷ filter is_free (gaps_of slots.now)))
         (S.image space.old) (S.image space.new) }
     ensures effect { ReadsFew 6 (S.state space.old) (S.state space.new) }
-    ensures waiting { S.waiting space.new ≤ S.waiting space.old + 3 }
+    ensures waiting { how_many (S.waiting space.new) ≤ how_many (S.waiting space.old) + 3 }
     ensures cause { IfErr result (IsRefusal (IsUntold (S.image space.old))
         (S.state space.old).faults (S.state space.new).faults) }
 {
@@ -170,7 +171,7 @@ fn write_chunk<S: Space>(
     ensures bytes { Both (ChangesOnly (range place length ∷ []))
         (S.image space.old) (S.image space.new) }
     ensures effect { ReadsFew 4 (S.state space.old) (S.state space.new) }
-    ensures waiting { S.waiting space.new ≤ S.waiting space.old + 4 }
+    ensures waiting { how_many (S.waiting space.new) ≤ how_many (S.waiting space.old) + 4 }
     ensures cause { IfErr result (IsRefusal ⊥ (S.state space.old).faults
         (S.state space.new).faults) }
 {
@@ -210,7 +211,7 @@ fn push<S: Space>(space: &mut S, place: u64, length: u64) -> Result<Option<u64>,
     ensures bytes { Both (ChangesOnly (free_table ∷ range place length ∷ []))
         (S.image space.old) (S.image space.new) }
     ensures effect { ReadsFew 10 (S.state space.old) (S.state space.new) }
-    ensures waiting { S.waiting space.new ≤ S.waiting space.old + 6 }
+    ensures waiting { how_many (S.waiting space.new) ≤ how_many (S.waiting space.old) + 6 }
     ensures cause { IfErr result (IsRefusal (ThreadsNone (S.image space.old))
         (S.state space.old).faults (S.state space.new).faults) }
 {
@@ -235,7 +236,7 @@ fn fill<S: Space>(space: &mut S, place: u64, length: u64) -> Result<(), AdfError
     ensures bytes { Both (ChangesOnly (free_table ∷ range place length ∷ []))
         (S.image space.old) (S.image space.new) }
     ensures effect { ReadsFew 2 (S.state space.old) (S.state space.new) }
-    ensures waiting { S.waiting space.new ≤ S.waiting space.old + 2 }
+    ensures waiting { how_many (S.waiting space.new) ≤ how_many (S.waiting space.old) + 2 }
     ensures cause { IfErr result (IsRefusal ⊥ (S.state space.old).faults
         (S.state space.new).faults) }
 {
@@ -258,7 +259,7 @@ pub(crate) fn write_gap<S: Space>(
     ensures bytes { Both (ChangesOnly (free_table ∷ range place length ∷ []))
         (S.image space.old) (S.image space.new) }
     ensures effect { ReadsFew 10 (S.state space.old) (S.state space.new) }
-    ensures waiting { S.waiting space.new ≤ S.waiting space.old + 6 }
+    ensures waiting { how_many (S.waiting space.new) ≤ how_many (S.waiting space.old) + 6 }
     ensures cause { IfErr result (IsRefusal (ThreadsNone (S.image space.old))
         (S.state space.old).faults (S.state space.new).faults) }
 {

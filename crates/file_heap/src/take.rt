@@ -2,6 +2,7 @@
 ghost use Rattle.std.specs.Prelude.{◌≡◌, ◌^◌, ◌+◌, ◌≤◌, ◌<◌, ◌∷◌, [], filter, IfOk, IfErr, IfSome, OnOk};
 ghost use Rattle.cg_io.specs.Blocks.{Both, ReadsFew};
 ghost use Rattle.cg_io.specs.Answers.{IsRefusal, IsUntold};
+ghost use Rattle.cg_io.specs.Waits.{how_many};
 ghost use Rattle.adf_format.specs.Tiles.{is_free};
 ghost use Rattle.adf_format.specs.HeapRule.{cut};
 ghost use Rattle.gap_tree.specs.Slots.{gaps_of};
@@ -39,7 +40,7 @@ pub(crate) fn grow<S: Space>(
     ensures end { OnOk result (Both (MovesEnd end.old end.new)
         (S.image space.old) (S.image space.new)) }
     ensures effect { ReadsFew 2 (S.state space.old) (S.state space.new) }
-    ensures waiting { S.waiting space.new ≤ S.waiting space.old + 1 }
+    ensures waiting { how_many (S.waiting space.new) ≤ how_many (S.waiting space.old) + 1 }
     ensures cause { IfErr result (IsTakeRefusal (IsUntold (S.image space.old))
         (S.state space.old).faults (S.state space.new).faults) }
 {
@@ -78,7 +79,7 @@ pub(crate) fn cut_front<S: Space>(
     ensures bytes { Both (ChangesOnly (free_table ∷ filter is_free (gaps_of slots.now.value)))
         (S.image space.old) (S.image space.new) }
     ensures effect { ReadsFew 16 (S.state space.old) (S.state space.new) }
-    ensures waiting { S.waiting space.new ≤ S.waiting space.old + 9 }
+    ensures waiting { how_many (S.waiting space.new) ≤ how_many (S.waiting space.old) + 9 }
     ensures cause { IfErr result (IsRefusal (IsUntold (S.image space.old))
         (S.state space.old).faults (S.state space.new).faults) }
 {
