@@ -109,7 +109,7 @@ fn is_in(ranges: &[(u64, u64)], place: u64) -> bool {
 }
 
 impl ReadBytes for Bytes {
-    ghost use Rattle.std.specs.Prelude.{None};
+    ghost use Rattle.std.specs.Prelude.{None, []};
 
     ghost image = { λ _. None };
 
@@ -117,7 +117,7 @@ impl ReadBytes for Bytes {
 
     ghost is_sound = { λ _. Unit {0} };
 
-    ghost waiting = { λ _. 0 };
+    ghost waiting = { λ _. [] };
 
     fn read(&mut self, place: u64, into: &mut [u8]) -> Result<(), ReadFault> {
         if self.fails() {
