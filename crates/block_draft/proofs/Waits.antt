@@ -23,9 +23,9 @@ found_key [] n = refl
 found_key (e ∷ es) n = (elim (nat_cmp n e.0) as (λ o. nat_cmp n e.0 ≡ o → (nat_eq n e.0 || list_any (nat_eq n) (keys_of es)) ≡ is_some (block_in (e ∷ es) n)) [
   | Less ↦ λ is. rw (is, unequal n e.0 (λ same. let equal = nat_cmp_is n e.0 Equal same in let both : Equal ≡ Less = equal ∙ is in cc)) (found_key es n)
   | Equal ↦ λ is. elim (eqb_tells n e.0) [
-      | inl same ↦ rw (is, same.0) refl
-      | inr ne ↦ absurd (ne.1 (exact_unsigned n e.0 is))
-    ]
+    | inl same ↦ rw (is, same.0) refl
+    | inr ne ↦ absurd (ne.1 (exact_unsigned n e.0 is))
+  ]
   | Greater ↦ λ is. rw (is, unequal n e.0 (λ same. let equal = nat_cmp_is n e.0 Equal same in let both : Equal ≡ Greater = equal ∙ is in cc)) (found_key es n)
 ]) refl
 
@@ -42,12 +42,12 @@ many_wait es are = many_keys es are.ascend
 touches : (place len n : ℕ) → IsTouched place len n ⊎ (IsTouched place len n → ⊥)
 touches place len n = elim (cases_lt 0 len) [
   | inl some ↦ elim (cases_lt (n * 4096) (place + len)) [
-      | inl low ↦ elim (cases_lt place (n * 4096 + 4096)) [
-          | inl high ↦ inl (some, low, high)
-          | inr past ↦ inr (λ is. omega (arith, is.2, past))
-        ]
-      | inr past ↦ inr (λ is. omega (arith, is.1, past))
+    | inl low ↦ elim (cases_lt place (n * 4096 + 4096)) [
+      | inl high ↦ inl (some, low, high)
+      | inr past ↦ inr (λ is. omega (arith, is.2, past))
     ]
+    | inr past ↦ inr (λ is. omega (arith, is.1, past))
+  ]
   | inr none ↦ inr (λ is. omega (arith, is.0, none))
 ]
 
