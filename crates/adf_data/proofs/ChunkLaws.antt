@@ -1,10 +1,10 @@
 -- A new chunk, written in four pieces.
-use Rattle.std.proofs.Common.{◌≡◌, ◌⊎◌, inl, inr, ℕ, ◌+◌, ◌-◌, ◌*◌, ◌/◌, ◌%◌, ◌<◌, ◌≤◌, ◌^◌, arith, List, ◌++◌, length, take, drop, replicate, get_or, sym, ◌∙◌, ap, subst}
+use Rattle.std.proofs.Common.{◌≡◌, ◌⊎◌, inl, inr, ℕ, ◌+◌, ◌-◌, ◌*◌, ◌/◌, ◌%◌, ◌<◌, ◌≤◌, ◌^◌, arith, List, ◌++◌, length, take, drop, replicate, get_or, refl, sym, ◌∙◌, ap, subst}
 use Rattle.std.proofs.lemmas.Bool.{cases_lt}
 use Rattle.std.proofs.lemmas.Option.{slice_get-get_or}
 use Rattle.std.proofs.lemmas.Grind.{same_number_lists}
 use Rattle.std.proofs.lemmas.List.{get_or-take, get_or-drop, get_or_append_left, get_or-append_right, get_or-replicate, length-append, length-take, length-replicate}
-use Rattle.std.specs.Prelude.{Option, Some, slice_get, codes}
+use Rattle.std.specs.Prelude.{Option, Some, slice_get, codes, ⊤}
 use Rattle.cg_io.specs.Blocks.{Both, Wrote, KeepsOutside}
 use Rattle.adf_format.specs.Fields.{field}
 use Rattle.adf_format.specs.Pointer.{Pointer, To, pointer_text}
@@ -26,7 +26,7 @@ use Rattle.field_access.proofs.WriteLaws.{written}
 use Rattle.cg_io.specs.Answers.{Then}
 use Rattle.cg_io.proofs.BothLaws.{both_then, both_map}
 use Rattle.adf_data.specs.Ranges.{AreIn, byte_place}
-use Rattle.adf_data.specs.Fills.{Fills, Copies, IsBeside, MakesChunk}
+use Rattle.adf_data.specs.Fills.{Fills, Copies, IsBeside, MakesChunk, MakesText}
 use Rattle.adf_data.proofs.PayloadLaws.{payloads_at, length-payloads}
 use Rattle.adf_data.proofs.RunLaws.{field_join}
 use Rattle.adf_data.proofs.SpanLaws.{wrote_keeps}
@@ -48,24 +48,25 @@ same_byte a b k le lt e = slice_get-get_or b k 0 (omega (arith, le, lt)) ∙ ap 
 
 -- ---- the four pieces
 
-module _ (parts : List ChunkPart) (kept n place : ℕ) (head tag a b c d e : List ℕ)
-    (long : 21 ≤ n) (fits : 20 + kept ≤ n) (near : place + n ≤ 2 ^ 44) (short : kept ≤ payload_length parts)
+-- the second piece has the first bytes of the payload, under a condition
+module _ (H : Type 0) (kept n place : ℕ) (given head tag a b c d e : List ℕ) (long : 21 ≤ n) (fits : 20 + kept ≤ n) (near : place + n ≤ 2 ^ 44)
     (head_is : head ≡ head_text Data (To (place + n - 4))) (head_long : length head ≡ 16) (tag_is : tag ≡ end_tag Data) (tag_long : length tag ≡ 4)
-    (first : Wrote place head a b) (second : Copies parts kept kept (place + 16) b c) (third : Fills (place + 16 + kept) (n - 20 - kept) c d) (last : Wrote (place + n - 4) tag d e) where
+    (first : Wrote place head a b) (second : KeepsOutside (place + 16) kept b c) (copied : H → (length given ≡ kept) × ((k : ℕ) → k < kept → get_or c (place + 16 + k) 0 ≡ get_or given k 0))
+    (third : Fills (place + 16 + kept) (n - 20 - kept) c d) (last : Wrote (place + n - 4) tag d e) where
   pub changes_all : KeepsOutside place n a e
   changes_all =
       kept_then place n a d e
       (kept_then place n a c d
       (kept_then place n a b c (part_of_range place 16 place n a b (omega arith) (omega (arith, long)) (wrote_keeps place 16 head a b head_long first))
-      (part_of_range (place + 16) kept place n b c (omega arith) (omega (arith, fits)) second.changes))
+      (part_of_range (place + 16) kept place n b c (omega arith) (omega (arith, fits)) second))
       (part_of_range (place + 16 + kept) (n - 20 - kept) place n c d (omega arith) (omega (arith, fits)) third.changes))
       (part_of_range (place + n - 4) 4 place n d e (omega (arith, long)) (omega (arith, long)) (wrote_keeps (place + n - 4) 4 tag d e tag_long last))
 
   lengths : (length b ≤ length c) × (length c ≤ length d) × (length d ≤ length e) × (place + 16 ≤ length b) × (place + n ≤ length e)
-  lengths = (second.changes.longer, third.changes.longer, last.longer, (let r = first.reaches (omega (arith, head_long)) in omega (arith, r, head_long)), (let r = last.reaches (omega (arith, tag_long)) in omega (arith, r, tag_long, long)))
+  lengths = (second.longer, third.changes.longer, last.longer, (let r = first.reaches (omega (arith, head_long)) in omega (arith, r, head_long)), (let r = last.reaches (omega (arith, tag_long)) in omega (arith, r, tag_long, long)))
 
   in_head : (k : ℕ) → k < place + 16 → place ≤ k → get_or e k 0 ≡ get_or b k 0
-  in_head k lt low = last.outside k (inl (omega (arith, lt, long))) ∙ third.changes.outside k (inl (omega (arith, lt))) ∙ second.changes.outside k (inl lt)
+  in_head k lt low = last.outside k (inl (omega (arith, lt, long))) ∙ third.changes.outside k (inl (omega (arith, lt))) ∙ second.outside k (inl lt)
 
   head_stands : field e place 16 ≡ head
   head_stands =
@@ -106,37 +107,73 @@ module _ (parts : List ChunkPart) (kept n place : ℕ) (head tag a b c d e : Lis
       let y : 20 + length body ≡ n = omega (arith, body_long, long) in
       subst (λ m. SpellsChunk (field e place m) place m) y (chunk_written place body a e (omega (arith, body_long, long)) (omega (arith, body_long, near, long)) stands_whole).0
 
-  pub body_is : IsBeside parts place n → AreIn parts a → payload e place n ≡ take kept (payloads a parts) ++ replicate (n - 20 - kept) 0
-  body_is beside all = same_number_lists body (take kept (payloads a parts) ++ replicate (n - 20 - kept) 0) (body_long ∙ sym size) (λ k lt. each k (omega (arith, lt, body_long)))
+  pub body_is : H → payload e place n ≡ given ++ replicate (n - 20 - kept) 0
+  body_is h = same_number_lists body (given ++ replicate (n - 20 - kept) 0) (body_long ∙ sym size) (λ k lt. each k (omega (arith, lt, body_long)))
     where
-      front : length (take kept (payloads a parts)) ≡ kept
-      front = let l = length-take kept (payloads a parts) in let m = length-payloads parts a all in omega (arith, l, m, short)
+      size : length (given ++ replicate (n - 20 - kept) 0) ≡ n - 20
+      size = let l = length-append given (replicate (n - 20 - kept) 0) in let r = length-replicate {A = ℕ} (n - 20 - kept) 0 in let f = (copied h).0 in omega (arith, l, r, f, fits)
 
-      size : length (take kept (payloads a parts) ++ replicate (n - 20 - kept) 0) ≡ n - 20
-      size = let l = length-append (take kept (payloads a parts)) (replicate (n - 20 - kept) 0) in let r = length-replicate {A = ℕ} (n - 20 - kept) 0 in omega (arith, l, r, front, fits)
-
-      narrow : IsBeside parts (place + 16) kept
-      narrow j lt = elim (beside j lt) [ inl h ↦ inl (omega (arith, h)) | inr h ↦ inr (omega (arith, h, fits)) ]
-
-      far : (j : ℕ) → j < payload_length parts → (byte_place parts j < place) ⊎ (place + 16 ≤ byte_place parts j)
-      far j lt = elim (beside j lt) [ inl h ↦ inl h | inr h ↦ inr (omega (arith, h, long)) ]
-
-      each : (k : ℕ) → k < n - 20 → get_or body k 0 ≡ get_or (take kept (payloads a parts) ++ replicate (n - 20 - kept) 0) k 0
+      each : (k : ℕ) → k < n - 20 → get_or body k 0 ≡ get_or (given ++ replicate (n - 20 - kept) 0) k 0
       each k lt =
           get_or-take (n - 20) (drop (place + 16) e) k 0 lt ∙ get_or-drop (place + 16) e k 0 ∙ last.outside (place + 16 + k) (inl (omega (arith, lt, long)))
           ∙ elim (cases_lt k kept) [
             | inl low ↦
-                third.changes.outside (place + 16 + k) (inl (omega (arith, low))) ∙ second.copied narrow k low
-                ∙ first.outside (byte_place parts k) (subst (λ m. (byte_place parts k < place) ⊎ (place + m ≤ byte_place parts k)) (sym head_long) (far k (omega (arith, low, short))))
-                ∙ sym (payloads_at parts a k all (omega (arith, low, short)))
-                ∙ sym (get_or_append_left (take kept (payloads a parts)) (replicate (n - 20 - kept) 0) 0 k (omega (arith, front, low)) ∙ get_or-take kept (payloads a parts) k 0 low)
+                third.changes.outside (place + 16 + k) (inl (omega (arith, low))) ∙ (copied h).1 k low
+                ∙ sym (get_or_append_left given (replicate (n - 20 - kept) 0) 0 k (let f = (copied h).0 in omega (arith, f, low)))
             | inr high ↦
                 third.zeros (place + 16 + k) (omega (arith, high)) (omega (arith, lt, fits))
-                ∙ sym (get_or-append_right (take kept (payloads a parts)) (replicate (n - 20 - kept) 0) kept k 0 front high ∙ get_or-replicate (n - 20 - kept) (k - kept) 0 0 (omega (arith, lt, high)))
+                ∙ sym (get_or-append_right given (replicate (n - 20 - kept) 0) kept k 0 (copied h).0 high ∙ get_or-replicate (n - 20 - kept) (k - kept) 0 0 (omega (arith, lt, high)))
           ]
 
-  pub made : MakesChunk parts kept n place a e
-  made = record { changes = changes_all; spells = chunk_spelled; body = body_is }
+-- the first bytes of the data, where they were copied
+module _ (parts : List ChunkPart) (kept n place : ℕ) (head a b c : List ℕ) (fits : 20 + kept ≤ n) (short : kept ≤ payload_length parts) (head_long : length head ≡ 16)
+    (first : Wrote place head a b) (second : Copies parts kept kept (place + 16) b c) where
+  copied_there : IsBeside parts place n × AreIn parts a
+      → (length (take kept (payloads a parts)) ≡ kept) × ((k : ℕ) → k < kept → get_or c (place + 16 + k) 0 ≡ get_or (take kept (payloads a parts)) k 0)
+  copied_there h = (
+    (let l = length-take kept (payloads a parts) in let m = length-payloads parts a h.1 in omega (arith, l, m, short)),
+    λ k low.
+        second.copied narrow k low
+        ∙ first.outside (byte_place parts k) (subst (λ m. (byte_place parts k < place) ⊎ (place + m ≤ byte_place parts k)) (sym head_long) (far k (omega (arith, low, short))))
+        ∙ sym (payloads_at parts a k h.1 (omega (arith, low, short))) ∙ sym (get_or-take kept (payloads a parts) k 0 low),
+  )
+    where
+      narrow : IsBeside parts (place + 16) kept
+      narrow j lt = elim (h.0 j lt) [ inl out ↦ inl (omega (arith, out)) | inr out ↦ inr (omega (arith, out, fits)) ]
+
+      far : (j : ℕ) → j < payload_length parts → (byte_place parts j < place) ⊎ (place + 16 ≤ byte_place parts j)
+      far j lt = elim (h.0 j lt) [ inl out ↦ inl out | inr out ↦ inr (omega (arith, out, fits)) ]
+
+made : (parts : List ChunkPart) (kept n place : ℕ) (head tag a b c d e : List ℕ) → 21 ≤ n → 20 + kept ≤ n → place + n ≤ 2 ^ 44 → kept ≤ payload_length parts → head ≡ head_text Data (To (place + n - 4)) → length head ≡ 16 → tag ≡ end_tag Data → length tag ≡ 4
+    → Wrote place head a b → Copies parts kept kept (place + 16) b c → Fills (place + 16 + kept) (n - 20 - kept) c d → Wrote (place + n - 4) tag d e → MakesChunk parts kept n place a e
+made parts kept n place head tag a b c d e long fits near short head_is head_long tag_is tag_long first second third last = record {
+  changes = changes_all H kept n place given head tag a b c d e long fits near head_is head_long tag_is tag_long first second.changes there third last;
+  spells = chunk_spelled H kept n place given head tag a b c d e long fits near head_is head_long tag_is tag_long first second.changes there third last;
+  body = λ beside all. body_is H kept n place given head tag a b c d e long fits near head_is head_long tag_is tag_long first second.changes there third last (beside, all);
+}
+  where
+    H : Type 0
+    H = IsBeside parts place n × AreIn parts a
+
+    given : List ℕ
+    given = take kept (payloads a parts)
+
+    there : H → (length given ≡ kept) × ((k : ℕ) → k < kept → get_or c (place + 16 + k) 0 ≡ get_or given k 0)
+    there = copied_there parts kept n place head a b c fits short head_long first second
+
+text_made : (text : List ℕ) (n place : ℕ) (head tag a b c d e : List ℕ) → 21 ≤ n → 20 + length text ≤ n → place + n ≤ 2 ^ 44 → head ≡ head_text Data (To (place + n - 4)) → length head ≡ 16 → tag ≡ end_tag Data → length tag ≡ 4
+    → Wrote place head a b → Wrote (place + 16) text b c → Fills (place + 16 + length text) (n - 20 - length text) c d → Wrote (place + n - 4) tag d e → MakesText text n place a e
+text_made text n place head tag a b c d e long fits near head_is head_long tag_is tag_long first second third last = record {
+  changes = changes_all ⊤ (length text) n place text head tag a b c d e long fits near head_is head_long tag_is tag_long first kept there third last;
+  spells = chunk_spelled ⊤ (length text) n place text head tag a b c d e long fits near head_is head_long tag_is tag_long first kept there third last;
+  body = body_is ⊤ (length text) n place text head tag a b c d e long fits near head_is head_long tag_is tag_long first kept there third last tt;
+}
+  where
+    kept : KeepsOutside (place + 16) (length text) b c
+    kept = wrote_keeps (place + 16) (length text) text b c refl second
+
+    there : ⊤ → (length text ≡ length text) × ((k : ℕ) → k < length text → get_or c (place + 16 + k) 0 ≡ get_or text k 0)
+    there _ = (refl, λ k lt. second.within (place + 16 + k) (omega arith) (omega (arith, lt)) ∙ ap (λ i. get_or text i 0) (omega arith))
 
 -- ---- where bytes are told
 
@@ -164,6 +201,15 @@ all_made parts kept n place head tag a b c d e long fits near short head_is tag_
     (λ old new t. made parts kept n place head tag old t.1.1.0 t.1.0 t.0 new long fits near short head_is (ap length head_is ∙ head_size (To (place + n - 4))) tag_is (ap length tag_is) t.1.1.1 t.1.1.2 t.1.2 t.2)
     (both_then (Then (Then (Wrote place head) (Copies parts kept kept (place + 16))) (Fills (place + 16 + kept) (n - 20 - kept))) (Wrote (place + n - 4) tag) a d e
     (both_then (Then (Wrote place head) (Copies parts kept kept (place + 16))) (Fills (place + 16 + kept) (n - 20 - kept)) a c d (both_then (Wrote place head) (Copies parts kept kept (place + 16)) a b c first second) third) last)
+
+pub all_text_made : (text : List ℕ) (n place : ℕ) (head tag : List ℕ) (a b c d e : Option (List ℕ)) → 21 ≤ n → 20 + length text ≤ n → place + n ≤ 2 ^ 44 → head ≡ head_text Data (To (place + n - 4)) → tag ≡ end_tag Data
+    → Both (Wrote place head) a b → Both (Wrote (place + 16) text) b c → Both (Fills (place + 16 + length text) (n - 20 - length text)) c d → Both (Wrote (place + n - 4) tag) d e → Both (MakesText text n place) a e
+all_text_made text n place head tag a b c d e long fits near head_is tag_is first second third last =
+    both_map (Then (Then (Then (Wrote place head) (Wrote (place + 16) text)) (Fills (place + 16 + length text) (n - 20 - length text))) (Wrote (place + n - 4) tag)) (MakesText text n place)
+    a e
+    (λ old new t. text_made text n place head tag old t.1.1.0 t.1.0 t.0 new long fits near head_is (ap length head_is ∙ head_size (To (place + n - 4))) tag_is (ap length tag_is) t.1.1.1 t.1.1.2 t.1.2 t.2)
+    (both_then (Then (Then (Wrote place head) (Wrote (place + 16) text)) (Fills (place + 16 + length text) (n - 20 - length text))) (Wrote (place + n - 4) tag) a d e
+    (both_then (Then (Wrote place head) (Wrote (place + 16) text)) (Fills (place + 16 + length text) (n - 20 - length text)) a c d (both_then (Wrote place head) (Wrote (place + 16) text) a b c first second) third) last)
 
 -- what is written, piece by piece, lies in the chunk
 module _ (place n kept : ℕ) (head : List ℕ) (p : Pointer) (head_is : head ≡ head_text Data p) (fits : 20 + kept ≤ n) (a b c : Option (List ℕ))

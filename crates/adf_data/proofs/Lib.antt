@@ -19,3 +19,6 @@ pub mod GatherLaws
 pub mod ZeroLaws
 pub mod ExtendLaws
 pub mod SizeLaws
+pub mod BlockLaws
+pub mod WholeLaws
+pub mod PartLaws

@@ -57,6 +57,9 @@ module _ (limit : ℕ) (spot : DataSpot) where
       → (in_one_chunk limit (alone spot) 0 size >>= λ (q : Placement). Ok (spot_of q)) ≡ Ok (record spot.0 { chunks = chunk place (chunk_length_for size) ∷ []; chunk_table = None }, give_all (data_extents spot.0) after)
   one_placed size place after e = ap (one_chunk size) e
 
+  pub one_refused : (size : ℕ) (full : LimitReached) → heap_take limit (chunk_length_for size) spot.1 ≡ Err full → (in_one_chunk limit (alone spot) 0 size >>= λ (q : Placement). Ok (spot_of q)) ≡ Err full
+  one_refused size full e = ap (one_chunk size) e
+
   abbrev first_chunk : ℕ → Result (ℕ × Heap) LimitReached → Result DataSpot LimitReached
   first_chunk added r =
       ((r >>= λ (t : ℕ × Heap). Ok (t.0, record (alone spot) { heap = t.1 })) >>= λ (c : Taken).

@@ -55,14 +55,14 @@ frame_covered (c ∷ cs) b bytes all (inr f) = let ih = frame_covered cs b bytes
 payload_holds : (c : ChunkPart) (k : ℕ) → k < c.length - 20 → holds_byte (extent ExtentKind.DataChunk c.place c.length) (c.place + 16 + k) ≡ true
 payload_holds c k lt = grind (arith, nat_tests)
 
-is_in : (c : ChunkPart) (k : ℕ) → k < c.length - 20 → nat_lt k (c.length - 20) ≡ true
+pub is_in : (c : ChunkPart) (k : ℕ) → k < c.length - 20 → nat_lt k (c.length - 20) ≡ true
 is_in c k lt = grind (arith, nat_tests)
 
 is_behind : (c : ChunkPart) (k : ℕ) → c.length - 20 ≤ k → nat_lt k (c.length - 20) ≡ false
 is_behind c k le = grind (arith, nat_tests)
 
 -- no byte of the data stands in a head or an end tag
-frame_apart : (cs : List ChunkPart) (b j : ℕ) (bytes : List ℕ) → AreIn cs bytes → ((b : ℕ) → cover (chunk_extents cs) b ≤ 1) → InFrame cs b → j < payload_length cs → byte_place cs j ≢ b
+pub frame_apart : (cs : List ChunkPart) (b j : ℕ) (bytes : List ℕ) → AreIn cs bytes → ((b : ℕ) → cover (chunk_extents cs) b ≤ 1) → InFrame cs b → j < payload_length cs → byte_place cs j ≢ b
 frame_apart [] b j bytes all one f lt e = f
 frame_apart (c ∷ cs) b j bytes all one f lt e = elim (cases_lt j (c.length - 20)) [
   | inl low ↦ here f low (let t = is_in c j low in rw t at e)
@@ -173,10 +173,10 @@ front_over n at xs piece le short =
           ]
         ]
 
-abbrev EndBy : ℕ → ℕ → List ℕ → Type 0
+abbrev pub EndBy : ℕ → ℕ → List ℕ → Type 0
 EndBy element n es = AllByRecursion (λ (e : ℕ). e * element + element ≤ n) es
 
-front_with : (element n : ℕ) (es given xs : List ℕ) → EndBy element n es → n ≤ length xs → (take n (with_elements element es given xs) ≡ with_elements element es given (take n xs)) × (length (with_elements element es given xs) ≡ length xs)
+pub front_with : (element n : ℕ) (es given xs : List ℕ) → EndBy element n es → n ≤ length xs → (take n (with_elements element es given xs) ≡ with_elements element es given (take n xs)) × (length (with_elements element es given xs) ≡ length xs)
 front_with element n [] given xs all short = (refl, refl)
 front_with element n (e ∷ es) given xs all short =
     let h : e * element + element ≤ n = all.0 in
@@ -196,7 +196,7 @@ end_both : (element n : ℕ) (xs ys : List ℕ) → EndBy element n xs → EndBy
 end_both element n [] ys a b = b
 end_both element n (x ∷ xs) ys a b = (a.0, end_both element n xs ys a.1 b)
 
-end_all : (element n : ℕ) (runs : List Run) → AllByRecursion (EndsIn element n) runs → EndBy element n (spread runs)
+pub end_all : (element n : ℕ) (runs : List Run) → AllByRecursion (EndsIn element n) runs → EndBy element n (spread runs)
 end_all element n [] all = tt
 end_all element n (r ∷ rs) all = end_both element n (elements_of r) (spread rs) (end_each element n r.first r.count all.0) (end_all element n rs all.1)
 

@@ -1,5 +1,5 @@
 -- Ranges of a space that are filled or copied to.
-use Rattle.std.specs.Prelude.{◌≡◌, ◌⊎◌, ℕ, ◌+◌, ◌-◌, ◌<◌, ◌≤◌, List, ◌++◌, take, replicate, get_or}
+use Rattle.std.specs.Prelude.{◌≡◌, ◌⊎◌, ℕ, ◌+◌, ◌-◌, ◌<◌, ◌≤◌, List, ◌++◌, length, take, replicate, get_or}
 use Rattle.adf_format.specs.Fields.{field}
 use Rattle.adf_format.specs.Parts.{SpellsChunk, payload}
 use Rattle.adf_format.specs.LaysOut.{payloads}
@@ -44,3 +44,9 @@ pub record MakesChunk (parts : List ChunkPart) (kept n place : ℕ) (old new : L
   pub changes : KeepsOutside place n old new
   pub spells : SpellsChunk (field new place n) place n
   pub body : IsBeside parts place n → AreIn parts old → payload new place n ≡ take kept (payloads old parts) ++ replicate (n - 20 - kept) 0
+
+-- a new chunk stands at a place: a text, and zeros behind it
+pub record MakesText (text : List ℕ) (n place : ℕ) (old new : List ℕ) : Type 0 where
+  pub changes : KeepsOutside place n old new
+  pub spells : SpellsChunk (field new place n) place n
+  pub body : payload new place n ≡ text ++ replicate (n - 20 - length text) 0

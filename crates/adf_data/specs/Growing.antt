@@ -1,5 +1,5 @@
 -- Chunks and tables that are put into the room of the heap, and data of another size.
-use Rattle.std.specs.Prelude.{◌≡◌, ◌≢◌, ◌⊎◌, ℕ, ◌+◌, ◌-◌, ◌^◌, ◌<◌, ◌≤◌, List, [], ◌∷◌, ◌++◌, length, take, replicate, nat_lt, if◌then◌else◌, Option, Some, None, Ok, Err}
+use Rattle.std.specs.Prelude.{◌≡◌, ◌≢◌, ◌⊎◌, ℕ, ◌+◌, ◌-◌, ◌*◌, ◌/◌, ◌^◌, ◌<◌, ◌≤◌, List, [], ◌∷◌, ◌++◌, length, take, replicate, nat_lt, if◌then◌else◌, Option, Some, None, Ok, Err}
 use Rattle.std.specs.List.{AllByRecursion}
 use Rattle.adf_format.specs.declared.types.Extent.{Extent}
 use Rattle.adf_format.specs.Fields.{field}
@@ -18,6 +18,7 @@ use Rattle.file_heap.specs.Heap.{FreeSpace, IsThreaded, MovesEnd, KeepsFillers}
 use Rattle.adf_data.specs.declared.place.DataPlace.{DataPlace}
 use Rattle.adf_data.specs.Ranges.{AreIn, byte_place}
 use Rattle.adf_data.specs.Runs.{Names}
+use Rattle.cg_io.specs.Waits.{how_many}
 use Rattle.disk_ptr.specs.View.{view}
 use Rattle.adf_data.specs.Sizes.{extents_in, MayGiveAll}
 
@@ -160,9 +161,28 @@ GrowsData limit table parts was size now before later old new = AreReady table p
 abbrev pub IsFullFor : ℕ → Option ℕ → List ChunkPart → ℕ → Heap → LimitReached → Type 0
 IsFullFor limit table parts size heap full = (at : NodeParts) → at.chunks ≡ parts → at.chunk_table ≡ table → resized_spot limit size (at, heap) ≡ Err full
 
+-- Data were put where there were none: one chunk stands where the rule places it and holds the text, the place names it; the lists
+-- thread the free chunks as they are remembered, the end pointer follows the end, and fillers stay so.
+pub record Puts (limit : ℕ) (text : List ℕ) (now : DataPlace) (spot : DataSpot) (after : NodeParts) (later : FreeSpace) (old new : List ℕ) : Type 0 where
+  pub placed : resized_spot limit (length text) spot ≡ Ok (after, later.heap)
+  pub named : Names now after
+  pub holds : HoldsData new after (Some text)
+  pub heap : KeepsHeap spot.1 later old new
+
+abbrev pub PutsData : ℕ → List ℕ → DataPlace → Heap → FreeSpace → List ℕ → List ℕ → Type 0
+PutsData limit text now before later old new =
+    (parts : NodeParts) → parts.chunks ≡ [] → parts.chunk_table ≡ None → (after : NodeParts) × Puts limit text now (parts, before) after later old new
+
 -- the longest table that is taken beside a chunk, where there are so many chunks
 abbrev pub room_of_table : ℕ → ℕ
 room_of_table count = if nat_lt 0 count then 1556 else 0
+
+-- How many blocks wait anew where data get a size: at most two a chunk, and some for the heap, beside those that what is added
+-- fills; or, where they are gathered, those that all of them fill.
+abbrev pub WaitsToGrow : ℕ → ℕ → ℕ → List ℕ → List ℕ → Type 0
+WaitsToGrow count was size old new =
+    ((1 ≤ count) × (count < 64) → how_many new ≤ how_many old + ((size - was) / 4096 + 36 + 2 * count))
+    × (how_many new ≤ how_many old + (size / 4096 + 36 + 12 * count))
 
 -- ---- for callers
 

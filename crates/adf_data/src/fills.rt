@@ -1,11 +1,12 @@
 // Zeros and copies, block by block.
-ghost use Rattle.std.specs.Prelude.{◌≡◌, ◌^◌, ◌+◌, ◌≤◌, ◌<◌, length, IfErr, OnOk};
+ghost use Rattle.std.specs.Prelude.{◌≡◌, ◌^◌, ◌+◌, ◌-◌, ◌%◌, ◌≤◌, ◌<◌, length, IfErr, OnOk};
 ghost use Rattle.std.specs.List.{All};
 ghost use Rattle.cg_io.specs.Blocks.{Both};
 ghost use Rattle.adf_format.specs.HeapRule.{payload_length};
 ghost use Rattle.cg_io.specs.Answers.{OnlyReads, IsRefusal};
+ghost use Rattle.cg_io.specs.Waits.{IsTouched, WaitsOnly};
 ghost use Rattle.adf_data.specs.Chunks.{parts_of, IsSane};
-ghost use Rattle.adf_data.specs.Ranges.{IsSpot, ChangesBytes};
+ghost use Rattle.adf_data.specs.Ranges.{IsSpot, ChangesBytes, HasByte};
 ghost use Rattle.adf_data.specs.Fills.{Fills, ChangesAt, AllZero, ZeroesBytes, CopiesPart, Copies, MakesChunk};
 
 use crate::chunks::Chunk;
@@ -16,14 +17,20 @@ use adf_model::AdfError;
 use cg_io::Space;
 use disk_ptr::from_place;
 
-// The smaller of a length and that of a block.
-fn block_part(left: u64) -> usize
+// How many bytes from a place on stand in its block, at most so many.
+fn block_part(place: u64, left: u64) -> usize
     requires { 0 < left }
     ensures some { 0 < result }
     ensures few { result ≤ left }
     ensures block { result ≤ 4096 }
+    ensures within { place % 4096 + result ≤ 4096 }
 {
-    if left < 4096 { left as usize } else { 4096 }
+    let room = 4096 - place % 4096;
+    if left < room {
+        left as usize
+    } else {
+        room as usize
+    }
 }
 
 // A block of zeros.
@@ -47,6 +54,7 @@ fn fill_part<S: Space>(
     ensures sound { S.is_sound space.new }
     ensures filled { OnOk result (Both (Fills place part) (S.image space.old) (S.image space.new)) }
     ensures bytes { Both (ChangesAt place part) (S.image space.old) (S.image space.new) }
+    ensures only { WaitsOnly (IsTouched place part) (S.waiting space.old) (S.waiting space.new) }
     ensures effect { OnlyReads (S.state space.old) (S.state space.new) }
     ensures cause { IfErr result (IsRefusal ⊥ (S.state space.old).faults
         (S.state space.new).faults) }
@@ -65,6 +73,7 @@ pub(crate) fn fill<S: Space>(space: &mut S, place: u64, count: u64) -> Result<()
     ensures filled { OnOk result (Both (Fills place count) (S.image space.old)
         (S.image space.new)) }
     ensures bytes { Both (ChangesAt place count) (S.image space.old) (S.image space.new) }
+    ensures only { WaitsOnly (IsTouched place count) (S.waiting space.old) (S.waiting space.new) }
     ensures effect { OnlyReads (S.state space.old) (S.state space.new) }
     ensures cause { IfErr result (IsRefusal ⊥ (S.state space.old).faults
         (S.state space.new).faults) }
@@ -72,7 +81,7 @@ pub(crate) fn fill<S: Space>(space: &mut S, place: u64, count: u64) -> Result<()
     let block = zero_block();
     let mut done = 0;
     while done < count {
-        let part = block_part(count - done);
+        let part = block_part(place + done, count - done);
         match fill_part(space, place + done, &block, part) {
             Ok(()) => {}
             Err(error) => return Err(error),
@@ -103,6 +112,7 @@ fn copy_part<S: Space>(
     ensures copied { OnOk result (Both (CopiesPart (parts_of chunks.now) first part to)
         (S.image space.old) (S.image space.new)) }
     ensures bytes { Both (ChangesAt to part) (S.image space.old) (S.image space.new) }
+    ensures only { WaitsOnly (IsTouched to part) (S.waiting space.old) (S.waiting space.new) }
     ensures effect { OnlyReads (S.state space.old) (S.state space.new) }
     ensures cause { IfErr result (IsRefusal ⊥ (S.state space.old).faults
         (S.state space.new).faults) }
@@ -133,6 +143,7 @@ pub(crate) fn copy_out<S: Space>(
     ensures copied { OnOk result (Both (Copies (parts_of chunks.now) count count to)
         (S.image space.old) (S.image space.new)) }
     ensures bytes { Both (ChangesAt to count) (S.image space.old) (S.image space.new) }
+    ensures only { WaitsOnly (IsTouched to count) (S.waiting space.old) (S.waiting space.new) }
     ensures effect { OnlyReads (S.state space.old) (S.state space.new) }
     ensures cause { IfErr result (IsRefusal ⊥ (S.state space.old).faults
         (S.state space.new).faults) }
@@ -140,7 +151,7 @@ pub(crate) fn copy_out<S: Space>(
     let mut spot = START;
     let mut done = 0;
     while done < count {
-        let part = block_part(count - done);
+        let part = block_part(to + done, count - done);
         match copy_part(space, chunks, &mut spot, done, part, to + done) {
             Ok(()) => {}
             Err(error) => return Err(error),
@@ -166,6 +177,8 @@ pub(crate) fn zero_range<S: Space>(
         (S.image space.old) (S.image space.new)) }
     ensures bytes { Both (ChangesBytes (parts_of chunks.now) first count) (S.image space.old)
         (S.image space.new) }
+    ensures only { WaitsOnly (HasByte (parts_of chunks.now) first count) (S.waiting space.old)
+        (S.waiting space.new) }
     ensures effect { OnlyReads (S.state space.old) (S.state space.new) }
     ensures cause { IfErr result (IsRefusal ⊥ (S.state space.old).faults
         (S.state space.new).faults) }
@@ -191,6 +204,8 @@ fn zero_by_blocks<S: Space>(
         (S.image space.old) (S.image space.new)) }
     ensures bytes { Both (ChangesBytes (parts_of chunks.now) first count) (S.image space.old)
         (S.image space.new) }
+    ensures only { WaitsOnly (HasByte (parts_of chunks.now) first count) (S.waiting space.old)
+        (S.waiting space.new) }
     ensures effect { OnlyReads (S.state space.old) (S.state space.new) }
     ensures cause { IfErr result (IsRefusal ⊥ (S.state space.old).faults
         (S.state space.new).faults) }
@@ -198,7 +213,7 @@ fn zero_by_blocks<S: Space>(
     let mut spot = START;
     let mut done = 0;
     while done < count {
-        let part = block_part(count - done);
+        let part = block_part(0, count - done);
         match write_range(space, chunks, &mut spot, first + done, &block[..part]) {
             Ok(()) => {}
             Err(error) => return Err(error),
@@ -226,6 +241,7 @@ pub(crate) fn write_chunk<S: Space>(
     ensures made { OnOk result (Both (MakesChunk (parts_of chunks.now) kept length place)
         (S.image space.old) (S.image space.new)) }
     ensures bytes { Both (ChangesAt place length) (S.image space.old) (S.image space.new) }
+    ensures only { WaitsOnly (IsTouched place length) (S.waiting space.old) (S.waiting space.new) }
     ensures effect { OnlyReads (S.state space.old) (S.state space.new) }
     ensures cause { IfErr result (IsRefusal ⊥ (S.state space.old).faults
         (S.state space.new).faults) }

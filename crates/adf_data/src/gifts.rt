@@ -4,6 +4,7 @@ ghost use Rattle.std.specs.Prelude.{◌≡◌, ◌++◌, ◌*◌, ◌^◌, ◌+�
 ghost use Rattle.std.specs.List.{All};
 ghost use Rattle.cg_io.specs.Blocks.{Both};
 ghost use Rattle.cg_io.specs.Answers.{OnlyReads, IsRefusal};
+ghost use Rattle.cg_io.specs.Waits.{how_many};
 ghost use Rattle.adf_format.specs.Placement.{chunk_extents, chunk_table_extents};
 ghost use Rattle.adf_format.specs.Changes.{heap_fields};
 ghost use Rattle.adf_format.specs.HeapRule.{give_all, pairs};
@@ -41,7 +42,8 @@ fn give_chunks<S: Space>(heap: &mut Heap, space: &mut S, chunks: &[Chunk]) -> Re
         (KeepsFillers heap.old.work.heap.gaps heap.new.work.heap.gaps)
         (S.image space.old) (S.image space.new)) }
     ensures effect { OnlyReads (S.state space.old) (S.state space.new) }
-    ensures waits { S.waiting space.new ≤ S.waiting space.old + 12 * length chunks.now }
+    ensures waits { how_many (S.waiting space.new)
+        ≤ how_many (S.waiting space.old) + 12 * length chunks.now }
     ensures cause { IfErr result (IsRefusal (Ungivable (S.image space.old)
         (chunk_extents (parts_of chunks.now)) heap.old.work.heap) (S.state space.old).faults
         (S.state space.new).faults) }
@@ -85,7 +87,7 @@ pub(crate) fn give_table<S: Space>(
         (KeepsFillers heap.old.work.heap.gaps heap.new.work.heap.gaps)
         (S.image space.old) (S.image space.new)) }
     ensures effect { OnlyReads (S.state space.old) (S.state space.new) }
-    ensures waits { S.waiting space.new ≤ S.waiting space.old + 12 }
+    ensures waits { how_many (S.waiting space.new) ≤ how_many (S.waiting space.old) + 12 }
     ensures cause { IfErr result (IsRefusal (Ungivable (S.image space.old)
         (chunk_table_extents table count) heap.old.work.heap) (S.state space.old).faults
         (S.state space.new).faults) }
@@ -126,7 +128,8 @@ pub(crate) fn give_data<S: Space>(
         (KeepsFillers heap.old.work.heap.gaps heap.new.work.heap.gaps)
         (S.image space.old) (S.image space.new)) }
     ensures effect { OnlyReads (S.state space.old) (S.state space.new) }
-    ensures waits { S.waiting space.new ≤ S.waiting space.old + 12 * (length chunks.now + 1) }
+    ensures waits { how_many (S.waiting space.new)
+        ≤ how_many (S.waiting space.old) + 12 * (length chunks.now + 1) }
     ensures cause { IfErr result (IsRefusal (Ungivable (S.image space.old)
         (extents_in table (parts_of chunks.now)) heap.old.work.heap) (S.state space.old).faults
         (S.state space.new).faults) }

@@ -1,9 +1,10 @@
 //! Data that grow: one new chunk for all of them, or one more for what is added.
 
-ghost use Rattle.std.specs.Prelude.{◌≡◌, ◌⊎◌, ℕ, ◌∷◌, [], ◌++◌, ◌+◌, ◌-◌, ◌*◌, ◌^◌, ◌≤◌, ◌<◌, length, max, Ok, Err, Some, IfOk, IfErr, IfSome, OnOk, IsTrue, IsFalse};
+ghost use Rattle.std.specs.Prelude.{◌≡◌, ◌⊎◌, ℕ, ◌∷◌, [], ◌++◌, ◌+◌, ◌-◌, ◌*◌, ◌/◌, ◌^◌, ◌≤◌, ◌<◌, length, max, Ok, Err, Some, IfOk, IfErr, IfSome, OnOk, IsTrue, IsFalse};
 ghost use Rattle.std.specs.List.{All};
 ghost use Rattle.cg_io.specs.Blocks.{Both};
 ghost use Rattle.cg_io.specs.Answers.{OnlyReads, IsUntold};
+ghost use Rattle.cg_io.specs.Waits.{how_many};
 ghost use Rattle.adf_format.specs.Placement.{Heap, chunk_table_extents};
 ghost use Rattle.adf_format.specs.Changes.{heap_fields};
 ghost use Rattle.adf_format.specs.HeapRule.{LimitReached, heap_take, give_all, payload_length, chunk_length_for, pairs};
@@ -13,7 +14,7 @@ ghost use Rattle.adf_data.specs.Chunks.{part_of, parts_of, IsSane};
 ghost use Rattle.adf_data.specs.Sizes.{extents_in, Ungivable};
 ghost use Rattle.adf_format.specs.Parts.{chunk_table_length};
 ghost use Rattle.disk_ptr.specs.View.{HasOffset};
-ghost use Rattle.adf_data.specs.Growing.{room_of, changed_ranges, PutsChunk, PutsTable, GathersData, ExtendsData, GrowsData, IsFullAt, IsFullFor, room_of_table};
+ghost use Rattle.adf_data.specs.Growing.{room_of, changed_ranges, PutsChunk, PutsTable, GathersData, ExtendsData, GrowsData, IsFullAt, IsFullFor, room_of_table, WaitsToGrow};
 
 use crate::chunks::Chunk;
 use crate::fills::{write_chunk, zero_range};
@@ -78,6 +79,8 @@ pub(crate) fn put_chunk<S: Space>(
         (KeepsFillers heap.old.work.heap.gaps heap.new.work.heap.gaps)
         (S.image space.old) (S.image space.new)) }
     ensures effect { OnlyReads (S.state space.old) (S.state space.new) }
+    ensures waits { OnOk result (how_many (S.waiting space.new)
+        ≤ how_many (S.waiting space.old) + (n / 4096 + 11)) }
     ensures cause { IfErr result (IsTakeRefusal (IsUntold (S.image space.old))
         (S.state space.old).faults (S.state space.new).faults) }
 {
@@ -132,6 +135,8 @@ pub(crate) fn put_table<S: Space>(
         (KeepsFillers heap.old.work.heap.gaps heap.new.work.heap.gaps)
         (S.image space.old) (S.image space.new)) }
     ensures effect { OnlyReads (S.state space.old) (S.state space.new) }
+    ensures waits { OnOk result (how_many (S.waiting space.new)
+        ≤ how_many (S.waiting space.old) + ((44 + 24 * length chunks.now) / 4096 + 11)) }
     ensures cause { IfErr result (IsTakeRefusal (IsUntold (S.image space.old))
         (S.state space.old).faults (S.state space.new).faults) }
 {
@@ -183,6 +188,8 @@ fn gather<S: Space>(
         (S.image space.old)
         (S.image space.new) }
     ensures effect { OnlyReads (S.state space.old) (S.state space.new) }
+    ensures waits { OnOk result (how_many (S.waiting space.new)
+        ≤ how_many (S.waiting space.old) + (new / 4096 + 24 + 12 * length chunks.now)) }
     ensures cause { IfErr result (IsTakeRefusal
         (Ungivable (S.image space.old) (extents_in table (parts_of chunks.now)) heap.old.work.heap)
         (S.state space.old).faults (S.state space.new).faults) }
@@ -241,6 +248,9 @@ fn extend<S: Space>(
         (S.image space.old)
         (S.image space.new) }
     ensures effect { OnlyReads (S.state space.old) (S.state space.new) }
+    ensures waits { OnOk result (how_many (S.waiting space.new)
+        ≤ how_many (S.waiting space.old) + ((have - old + added) / 4096 + 36
+        + 2 * length chunks.now)) }
     ensures cause { IfErr result (IsTakeRefusal
         (Ungivable (S.image space.old) (extents_in table (parts_of chunks.now)) heap.old.work.heap)
         (S.state space.old).faults (S.state space.new).faults) }
@@ -318,6 +328,8 @@ pub(crate) fn grow<S: Space>(
         (S.image space.old)
         (S.image space.new) }
     ensures effect { OnlyReads (S.state space.old) (S.state space.new) }
+    ensures waits { OnOk result (WaitsToGrow (length chunks.now) old new (S.waiting space.old)
+        (S.waiting space.new)) }
     ensures cause { IfErr result (IsTakeRefusal
         (Ungivable (S.image space.old) (extents_in table (parts_of chunks.now)) heap.old.work.heap)
         (S.state space.old).faults (S.state space.new).faults) }

@@ -15,7 +15,9 @@ mod runs;
 mod sizes;
 mod spaces;
 mod tables;
+mod whole;
 
 pub use place::DataPlace;
 pub use runs::{read_runs, write_runs};
 pub use sizes::{release, resize};
+pub use whole::{put_part, put_whole};

@@ -6,7 +6,8 @@ ghost use Rattle.adf_format.specs.HeapRule.{payload_length};
 ghost use Rattle.adf_format.specs.Placement.{ChunkPart};
 ghost use Rattle.cg_io.specs.Answers.{OnlyReads, IsRefusal};
 ghost use Rattle.adf_data.specs.Chunks.{part_of, parts_of, part_at, IsSane};
-ghost use Rattle.adf_data.specs.Ranges.{IsSpot, IsSpan, IsRead, WritesBytes, ChangesBytes};
+ghost use Rattle.cg_io.specs.Waits.{WaitsOnly};
+ghost use Rattle.adf_data.specs.Ranges.{IsSpot, IsSpan, IsRead, WritesBytes, ChangesBytes, HasByte};
 
 use crate::chunks::Chunk;
 use crate::spaces::{load, store};
@@ -153,6 +154,8 @@ pub(crate) fn write_range<S: Space>(
         (length from.now)) (S.image space.old) (S.image space.new)) }
     ensures bytes { Both (ChangesBytes (parts_of chunks.now) first (length from.now))
         (S.image space.old) (S.image space.new) }
+    ensures only { WaitsOnly (HasByte (parts_of chunks.now) first (length from.now))
+        (S.waiting space.old) (S.waiting space.new) }
     ensures effect { OnlyReads (S.state space.old) (S.state space.new) }
     ensures cause { IfErr result (IsRefusal ⊥ (S.state space.old).faults
         (S.state space.new).faults) }

@@ -3,6 +3,7 @@
 ghost use Rattle.std.specs.Prelude.{◌≡◌, ◌⊎◌, ℕ, ◌∷◌, ◌++◌, ◌^◌, ◌+◌, ◌≤◌, Ok, Err, IfOk, IfErr, IfSome, OnOk, OnErr};
 ghost use Rattle.cg_io.specs.Blocks.{Both};
 ghost use Rattle.cg_io.specs.Answers.{OnlyReads, IsRefusal, IsUntold};
+ghost use Rattle.cg_io.specs.Waits.{how_many};
 ghost use Rattle.adf_format.specs.Changes.{heap_fields};
 ghost use Rattle.adf_format.specs.HeapRule.{LimitReached, heap_take, heap_give, pairs};
 ghost use Rattle.adf_model.specs.declared.error.AdfError.{AdfError};
@@ -42,7 +43,7 @@ pub(crate) fn take_range<S: Space>(heap: &mut Heap, space: &mut S, n: u64) -> Re
         (KeepsFillers heap.old.work.heap.gaps heap.new.work.heap.gaps)
         (S.image space.old) (S.image space.new)) }
     ensures effect { OnlyReads (S.state space.old) (S.state space.new) }
-    ensures waits { S.waiting space.new ≤ S.waiting space.old + 9 }
+    ensures waits { how_many (S.waiting space.new) ≤ how_many (S.waiting space.old) + 9 }
     ensures cause { IfErr result (IsTakeRefusal (IsUntold (S.image space.old))
         (S.state space.old).faults (S.state space.new).faults) }
 {
@@ -78,7 +79,7 @@ pub(crate) fn give_range<S: Space>(
         (KeepsFillers heap.old.work.heap.gaps heap.new.work.heap.gaps)
         (S.image space.old) (S.image space.new)) }
     ensures effect { OnlyReads (S.state space.old) (S.state space.new) }
-    ensures waits { S.waiting space.new ≤ S.waiting space.old + 12 }
+    ensures waits { how_many (S.waiting space.new) ≤ how_many (S.waiting space.old) + 12 }
     ensures cause { IfErr result (IsRefusal (IsUntold (S.image space.old)
         ⊎ (MayGive place n heap.old.work.heap → ⊥)) (S.state space.old).faults
         (S.state space.new).faults) }

@@ -1,6 +1,6 @@
 //! Elements of the data, by runs.
 
-ghost use Rattle.std.specs.Prelude.{◌≡◌, ℕ, ◌+◌, ◌*◌, ◌^◌, ◌≤◌, ◌<◌, IsTrue, ◌↔◌, List, Some, length, take, IfOk, IfErr, IfSome, OnOk};
+ghost use Rattle.std.specs.Prelude.{◌≡◌, ℕ, ◌+◌, ◌*◌, ◌/◌, ◌^◌, ◌≤◌, ◌<◌, IsTrue, ◌↔◌, List, Some, length, take, IfOk, IfErr, IfSome, OnOk};
 ghost use Rattle.std.specs.List.{All};
 ghost use Rattle.cg_io.specs.Blocks.{Both};
 ghost use Rattle.adf_format.specs.Placement.{NodeParts};
@@ -10,7 +10,9 @@ ghost use Rattle.adf_model.specs.Selection.{element_bytes};
 ghost use Rattle.strided.specs.RunLists.{spread};
 ghost use Rattle.disk_ptr.specs.View.{HasOffset};
 ghost use Rattle.cg_io.specs.Answers.{OnlyReads, IsRefusal};
+ghost use Rattle.cg_io.specs.Waits.{how_many, WaitsOnly};
 ghost use Rattle.adf_data.specs.Chunks.{parts_of, IsSane};
+ghost use Rattle.adf_data.specs.Ranges.{HasByte};
 ghost use Rattle.adf_data.specs.Runs.{EndsIn, run_bytes, run_at, RunsRead, WritesRuns, ChangesPayloads, IsShort, Holds, NoRuns, WritesElements, ChangesDataAlone};
 
 use crate::chunks::{Chunk, list_chunks};
@@ -222,7 +224,7 @@ pub fn read_runs<S: Space>(
 }
 
 // Writes the bytes of all runs.
-fn write_each<S: Space>(
+pub(crate) fn write_each<S: Space>(
     space: &mut S,
     chunks: &[Chunk],
     element: u64,
@@ -239,6 +241,9 @@ fn write_each<S: Space>(
         (S.image space.old) (S.image space.new)) }
     ensures bytes { Both (ChangesPayloads (parts_of chunks.now)) (S.image space.old)
         (S.image space.new) }
+    ensures only { (limit : ℕ) → All (EndsIn element limit) runs.now
+        → WaitsOnly (HasByte (parts_of chunks.now) 0 limit) (S.waiting space.old)
+        (S.waiting space.new) }
     ensures effect { OnlyReads (S.state space.old) (S.state space.new) }
     ensures cause { IfErr result (IsRefusal ⊥ (S.state space.old).faults
         (S.state space.new).faults) }
@@ -264,6 +269,7 @@ fn write_each<S: Space>(
 
 /// Writes over the elements of some runs, in their order. The time grows with the number of runs and
 /// of bytes, and only the blocks that the runs touch, and those of the chunks' heads or their table, are read.
+/// However many the runs are, no more blocks wait anew than the bytes up to the end of the last run fill, and two a chunk.
 pub fn write_runs<S: Space>(
     alloc: Global,
     space: &mut S,
@@ -280,6 +286,9 @@ pub fn write_runs<S: Space>(
     ensures written { OnOk result (Both (WritesElements at.now element runs.now bytes.now)
         (S.image space.old) (S.image space.new)) }
     ensures alone { Both (ChangesDataAlone at.now) (S.image space.old) (S.image space.new) }
+    ensures waits { (limit : ℕ) → All (EndsIn element limit) runs.now
+        → how_many (S.waiting space.new)
+        ≤ how_many (S.waiting space.old) + (limit / 4096 + 2 * at.now.count) }
     ensures effect { OnlyReads (S.state space.old) (S.state space.new) }
     ensures cause { IfErr result (IsRefusal (NoRuns at.now element runs.now (S.image space.old))
         (S.state space.old).faults (S.state space.new).faults) }
@@ -309,6 +318,9 @@ fn write_bytes<S: Space>(
         (parts_of chunks.now) element runs.now bytes.now) (S.image space.old) (S.image space.new)) }
     ensures changes { Both (ChangesPayloads (parts_of chunks.now)) (S.image space.old)
         (S.image space.new) }
+    ensures only { (limit : ℕ) → All (EndsIn element limit) runs.now
+        → WaitsOnly (HasByte (parts_of chunks.now) 0 limit) (S.waiting space.old)
+        (S.waiting space.new) }
     ensures effect { OnlyReads (S.state space.old) (S.state space.new) }
     ensures cause { IfErr result (IsRefusal (All
         (EndsIn element (payload_length (parts_of chunks.now))) runs.now

@@ -4,6 +4,7 @@ ghost use Rattle.std.specs.Prelude.{◌≡◌, ℕ, List, Option, ◌++◌, ◌*
 ghost use Rattle.std.specs.List.{All};
 ghost use Rattle.cg_io.specs.Blocks.{Both};
 ghost use Rattle.cg_io.specs.Answers.{OnlyReads, IsRefusal};
+ghost use Rattle.cg_io.specs.Waits.{how_many, WaitsOnly};
 ghost use Rattle.adf_format.specs.Placement.{NodeParts};
 ghost use Rattle.adf_format.specs.Changes.{heap_fields};
 ghost use Rattle.adf_format.specs.HeapRule.{LimitReached, give_all, data_extents, payload_length, chunk_length_for, pairs};
@@ -13,10 +14,10 @@ ghost use Rattle.file_heap.specs.Heap.{IsHeap, IsThreaded, IsTakeRefusal, Change
 ghost use Rattle.adf_model.specs.declared.error.AdfError.{AdfError};
 ghost use Rattle.adf_model.specs.NodeData.{resized_spot};
 ghost use Rattle.adf_data.specs.Chunks.{parts_of, IsSane, Named};
-ghost use Rattle.adf_data.specs.Ranges.{ChangesBytes};
+ghost use Rattle.adf_data.specs.Ranges.{ChangesBytes, HasByte};
 ghost use Rattle.adf_data.specs.Fills.{ZeroesBytes};
 ghost use Rattle.adf_data.specs.Sizes.{MayGiveAll};
-ghost use Rattle.adf_data.specs.Growing.{ResizesData, Owns, sized_ranges, room_of_table};
+ghost use Rattle.adf_data.specs.Growing.{ResizesData, Owns, sized_ranges, room_of_table, WaitsToGrow};
 
 use crate::chunks::{Chunk, list_chunks, table_in};
 use crate::fills::zero_range;
@@ -59,7 +60,8 @@ pub fn release<S: Space>(
         (KeepsFillers heap.old.work.heap.gaps heap.new.work.heap.gaps)
         (S.image space.old) (S.image space.new)) }
     ensures effect { OnlyReads (S.state space.old) (S.state space.new) }
-    ensures waits { S.waiting space.new ≤ S.waiting space.old + 12 * (at.old.count + 1) }
+    ensures waits { how_many (S.waiting space.new)
+        ≤ how_many (S.waiting space.old) + 12 * (at.old.count + 1) }
     ensures cause { IfErr result (IsRefusal ((parts : NodeParts)
         → Named at.old parts (S.image space.old)
         → MayGiveAll (data_extents parts) heap.old.work.heap
@@ -96,6 +98,8 @@ fn clear_between<S: Space>(
     ensures bytes { Both (ChangesBytes (parts_of chunks.now) from (to - from)) (S.image space.old)
         (S.image space.new) }
     ensures effect { OnlyReads (S.state space.old) (S.state space.new) }
+    ensures only { WaitsOnly (HasByte (parts_of chunks.now) from (to - from)) (S.waiting space.old)
+        (S.waiting space.new) }
     ensures cause { IfErr result (IsRefusal ⊥ (S.state space.old).faults
         (S.state space.new).faults) }
 {
@@ -142,6 +146,8 @@ pub fn resize<S: Space>(
         → resized_spot heap.old.limit new (parts, heap.old.work.heap)
         ≡ Err (record { asked = asked; end = end }) }
     ensures effect { OnlyReads (S.state space.old) (S.state space.new) }
+    ensures waits { OnOk result (WaitsToGrow at.old.count old new (S.waiting space.old)
+        (S.waiting space.new)) }
     ensures cause { IfErr result (IsTakeRefusal ((parts : NodeParts) (bytes : Option (List ℕ))
         → Owns at.old old parts bytes heap.old.work.heap (S.image space.old)
         → ⊥) (S.state space.old).faults (S.state space.new).faults) }

@@ -3,6 +3,7 @@ ghost use Rattle.std.specs.Prelude.{◌≡◌, ◌^◌, ◌+◌, ◌≤◌, leng
 ghost use Rattle.cg_io.specs.Device.{GivesAt};
 ghost use Rattle.cg_io.specs.Blocks.{Both, Wrote, KeepsOutside, blocks_of};
 ghost use Rattle.cg_io.specs.Answers.{OnlyReads, IsRefusal};
+ghost use Rattle.cg_io.specs.Waits.{how_many, IsTouched, WaitsOnly};
 
 use adf_model::AdfError;
 use cg_io::{Space, write_bytes};
@@ -36,7 +37,10 @@ pub(crate) fn store<S: Space>(space: &mut S, place: u64, from: &[u8]) -> Result<
         (S.image space.new)) }
     ensures bytes { Both (KeepsOutside place (length from.now)) (S.image space.old)
         (S.image space.new) }
-    ensures waits { S.waiting space.new ≤ S.waiting space.old + blocks_of place (length from.now) }
+    ensures waits { how_many (S.waiting space.new)
+        ≤ how_many (S.waiting space.old) + blocks_of place (length from.now) }
+    ensures only { WaitsOnly (IsTouched place (length from.now)) (S.waiting space.old)
+        (S.waiting space.new) }
     ensures effect { OnlyReads (S.state space.old) (S.state space.new) }
     ensures cause { IfErr result (IsRefusal ⊥ (S.state space.old).faults
         (S.state space.new).faults) }

@@ -3,6 +3,7 @@ use Rattle.cg_io.specs.Blocks.{Both}
 use Rattle.cg_io.specs.Answers.{OnlyReads}
 use Rattle.adf_data.specs.Chunks.{parts_of}
 use Rattle.adf_data.specs.Ranges.{IsSpot}
+use Rattle.cg_io.specs.Waits.{IsTouched, WaitsOnly}
 use Rattle.adf_data.specs.Fills.{Copies}
 use Rattle.adf_data.proofs.fills.copy_out.Given as goal
 
@@ -13,6 +14,7 @@ invariant-loop-done g l = record {
   looks : OnlyReads (g.S.ReadBytes.state l.fn.space) (g.S.ReadBytes.state l.space);
   spot : IsSpot (parts_of l.chunks) l.spot;
   copied : Both (Copies (parts_of l.chunks) l.count l.done l.to) (g.S.ReadBytes.image l.fn.space) (g.S.ReadBytes.image l.space);
+  waits : WaitsOnly (IsTouched l.to l.count) (g.S.ReadBytes.waiting l.fn.space) (g.S.ReadBytes.waiting l.space);
 }
 
 abbrev pub decreases-loop-done : goal.decreases-loop-done

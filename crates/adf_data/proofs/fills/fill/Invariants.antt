@@ -1,6 +1,7 @@
 use Rattle.std.proofs.Common.{◌≤◌, ◌-◌}
 use Rattle.cg_io.specs.Blocks.{Both}
 use Rattle.cg_io.specs.Answers.{OnlyReads}
+use Rattle.cg_io.specs.Waits.{IsTouched, WaitsOnly}
 use Rattle.adf_data.specs.Fills.{Fills}
 use Rattle.adf_data.proofs.fills.fill.Given as goal
 
@@ -10,6 +11,7 @@ invariant-loop-done g l = record {
   sound : g.S.ReadBytes.is_sound l.space;
   looks : OnlyReads (g.S.ReadBytes.state l.fn.space) (g.S.ReadBytes.state l.space);
   filled : Both (Fills l.place l.done) (g.S.ReadBytes.image l.fn.space) (g.S.ReadBytes.image l.space);
+  waits : WaitsOnly (IsTouched l.place l.count) (g.S.ReadBytes.waiting l.fn.space) (g.S.ReadBytes.waiting l.space);
 }
 
 abbrev pub decreases-loop-done : goal.decreases-loop-done

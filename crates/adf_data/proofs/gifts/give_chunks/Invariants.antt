@@ -9,12 +9,13 @@ use Rattle.adf_format.specs.HeapRule.{give_all, pairs}
 use Rattle.file_heap.specs.Heap.{IsHeap, IsThreaded, ChangesOnly, MovesEnd, KeepsFillers}
 use Rattle.adf_data.specs.Chunks.{parts_of}
 use Rattle.adf_data.proofs.gifts.give_chunks.Given as goal
+use Rattle.cg_io.specs.Waits.{how_many}
 
 abbrev pub invariant-loop-i : goal.invariant-loop-i
 invariant-loop-i g l = record {
   sound : g.S.ReadBytes.is_sound l.space;
   looks : OnlyReads (g.S.ReadBytes.state l.fn.space) (g.S.ReadBytes.state l.space);
-  waits : g.S.ReadBytes.waiting l.space ≤ g.S.ReadBytes.waiting l.fn.space + 12 * l.i;
+  waits : how_many (g.S.ReadBytes.waiting l.space) ≤ how_many (g.S.ReadBytes.waiting l.fn.space) + 12 * l.i;
   kept : l.heap.kept ≡ l.fn.heap.kept;
   limit : l.heap.limit ≡ l.fn.heap.limit;
   heap : IsHeap l.heap.work.heap;

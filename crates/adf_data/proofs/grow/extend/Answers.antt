@@ -16,6 +16,7 @@ use Rattle.adf_data.proofs.ReleaseLaws.{tables_of, extents_of, split, table_not_
 use Rattle.adf_data.proofs.GatherLaws.{room_in_ranges, later_refused}
 use Rattle.adf_data.proofs.ZeroLaws.{all_changes_chunks}
 use Rattle.adf_data.proofs.ExtendLaws.{long_extended, two_calls, three_calls, four_calls}
+use Rattle.adf_data.proofs.BlockLaws.{chunk_blocks, counted_data}
 use Rattle.adf_data.proofs.grow.extend.Goals as goal
 
 pub returns-in-Err-clause-bytes : goal.returns-in-Err-clause-bytes
@@ -64,3 +65,9 @@ returns-clause-extends g c =
     (end_then c.args.heap.now.work.heap.end c.put_table.new.heap.work.heap.end c.give_table.new.heap.work.heap.end (g.S.ReadBytes.image c.args.space.now) (g.S.ReadBytes.image c.put_table.new.space) (g.S.ReadBytes.image c.give_table.new.space) (end_then c.args.heap.now.work.heap.end c.put_chunk.new.heap.work.heap.end c.put_table.new.heap.work.heap.end (g.S.ReadBytes.image c.args.space.now) (g.S.ReadBytes.image c.put_chunk.new.space) (g.S.ReadBytes.image c.put_table.new.space) c.in-Ok.ensures.end c.in-Ok-put_table.ensures.end) c.in-Ok-give_table.ensures.end)
     (fillers_then c.args.heap.now.work.heap.gaps c.put_table.new.heap.work.heap.gaps c.give_table.new.heap.work.heap.gaps (g.S.ReadBytes.image c.args.space.now) (g.S.ReadBytes.image c.put_table.new.space) (g.S.ReadBytes.image c.give_table.new.space) (fillers_then c.args.heap.now.work.heap.gaps c.put_chunk.new.heap.work.heap.gaps c.put_table.new.heap.work.heap.gaps (g.S.ReadBytes.image c.args.space.now) (g.S.ReadBytes.image c.put_chunk.new.space) (g.S.ReadBytes.image c.put_table.new.space) c.in-Ok.ensures.fillers c.in-Ok-put_table.ensures.fillers) c.in-Ok-give_table.ensures.fillers)
     (subst (λ k. Both (ZeroesBytes (parts_of c.args.chunks.now) c.args.old (k - c.args.old)) (g.S.ReadBytes.image c.give_table.new.space) (g.S.ReadBytes.image c.zero_range.new.space)) c.requires.have c.in-Ok-zero_range.ensures.zeroed)
+
+pub returns-clause-waits : goal.returns-clause-waits
+returns-clause-waits g c =
+    let p = c.in-Ok.ensures.waits in let t = c.in-Ok-put_table.ensures.waits in let w = c.give_table.ensures.waits in let n = chunk_blocks c.args.added in let l = c.chunk_length-length.ensures in let m = length-map c.args.chunks.now part_of in
+    let z = counted_data (parts_of c.args.chunks.now) c.args.old (c.args.have - c.args.old) (g.S.ReadBytes.waiting c.give_table.new.space) (g.S.ReadBytes.waiting c.zero_range.new.space) c.zero_range.ensures.only in
+    let few = c.requires.few in omega (arith, p, t, w, n, l, m, z, few)

@@ -6,6 +6,8 @@ use Rattle.adf_data.specs.Growing.{room_of}
 use Rattle.adf_data.proofs.HeapWords.{end_then, fillers_then, grow_later}
 use Rattle.adf_data.proofs.ChunkLaws.{view_from}
 use Rattle.adf_data.proofs.GatherLaws.{long_gathered, room_in_ranges, gathered_bytes, later_refused}
+use Rattle.adf_data.proofs.BlockLaws.{chunk_blocks}
+use Rattle.std.proofs.Common.{arith}
 use Rattle.adf_data.proofs.grow.gather.Goals as goal
 
 pub returns-in-Err-clause-bytes : goal.returns-in-Err-clause-bytes
@@ -37,3 +39,7 @@ returns-clause-gathers g c =
     c.in-Ok.ensures.covers c.in-Ok.ensures.within c.in-Ok.ensures.takes c.in-Ok.ensures.puts c.give_data.ensures.bytes c.in-Ok-give_data.ensures.threads
     (end_then c.args.heap.now.work.heap.end c.put_chunk.new.heap.work.heap.end c.give_data.new.heap.work.heap.end (g.S.ReadBytes.image c.args.space.now) (g.S.ReadBytes.image c.put_chunk.new.space) (g.S.ReadBytes.image c.give_data.new.space) c.in-Ok.ensures.end c.in-Ok-give_data.ensures.end)
     (fillers_then c.args.heap.now.work.heap.gaps c.put_chunk.new.heap.work.heap.gaps c.give_data.new.heap.work.heap.gaps (g.S.ReadBytes.image c.args.space.now) (g.S.ReadBytes.image c.put_chunk.new.space) (g.S.ReadBytes.image c.give_data.new.space) c.in-Ok.ensures.fillers c.in-Ok-give_data.ensures.fillers)
+
+pub returns-clause-waits : goal.returns-clause-waits
+returns-clause-waits g c =
+    let p = c.in-Ok.ensures.waits in let w = c.give_data.ensures.waits in let n = chunk_blocks c.args.new in let l = c.chunk_length.ensures in omega (arith, p, w, n, l)

@@ -2,6 +2,8 @@ use Rattle.adf_data.specs.Chunks.{parts_of}
 use Rattle.adf_data.proofs.HeapWords.{end_then, fillers_then}
 use Rattle.adf_data.proofs.RoomLaws.{taken_in_room, threads_stay, end_stays, fillers_stay, written_in_room}
 use Rattle.adf_data.proofs.GrowLaws.{all_put}
+use Rattle.adf_data.proofs.BlockLaws.{counted_range}
+use Rattle.std.proofs.Common.{arith}
 use Rattle.adf_data.proofs.grow.put_chunk.Goals as goal
 
 pub returns-in-Err-clause-bytes : goal.returns-in-Err-clause-bytes
@@ -38,3 +40,7 @@ returns-in-Ok-write_chunk-clause-fillers g c =
     fillers_then c.args.heap.now.work.heap.gaps c.take_range.new.heap.work.heap.gaps c.take_range.new.heap.work.heap.gaps (g.S.ReadBytes.image c.args.space.now) (g.S.ReadBytes.image c.take_range.new.space) (g.S.ReadBytes.image c.write_chunk.new.space) c.in-Ok.ensures.fillers
     (fillers_stay c.args.n c.in-Ok.place c.args.heap.now.work.heap c.take_range.new.heap.work c.requires.heap c.in-Ok.ensures.covers c.in-Ok.ensures.within
     (g.S.ReadBytes.image c.take_range.new.space) (g.S.ReadBytes.image c.write_chunk.new.space) c.write_chunk.ensures.bytes c.in-Ok.ensures.threads)
+
+pub returns-in-Ok-write_chunk-clause-waits : goal.returns-in-Ok-write_chunk-clause-waits
+returns-in-Ok-write_chunk-clause-waits g c =
+    let t = c.take_range.ensures.waits in let w = counted_range c.in-Ok.place c.args.n (g.S.ReadBytes.waiting c.take_range.new.space) (g.S.ReadBytes.waiting c.write_chunk.new.space) c.write_chunk.ensures.only in omega (arith, t, w)

@@ -1,10 +1,11 @@
-use Rattle.std.proofs.Common.{◌+◌, ◌*◌, ◌++◌, ◌∷◌, [], length, arith, ◌∙◌, ap, subst}
+use Rattle.std.proofs.Common.{◌≡◌, ◌+◌, ◌*◌, ◌++◌, ◌∷◌, [], length, arith, ◌∙◌, ap, subst}
 use Rattle.std.proofs.lemmas.List.{length-map, length-append}
 use Rattle.cg_io.specs.Blocks.{Both, KeepsOutside}
 use Rattle.adf_data.specs.Chunks.{part_of, parts_of}
 use Rattle.adf_data.proofs.HeapWords.{end_then, fillers_then}
 use Rattle.adf_data.proofs.RoomLaws.{taken_in_room, threads_stay, end_stays, fillers_stay, written_in_room}
 use Rattle.adf_data.proofs.GrowLaws.{all_tables}
+use Rattle.adf_data.proofs.BlockLaws.{few_blocks}
 use Rattle.adf_data.proofs.grow.put_table.Goals as goal
 
 pub returns-in-Err-clause-bytes : goal.returns-in-Err-clause-bytes
@@ -47,3 +48,8 @@ pub returns-clause-bytes : goal.returns-clause-bytes
 returns-clause-bytes g c =
     written_in_room (44 + 24 * length c.args.chunks.now) c.in-Ok.place c.args.heap.now.work.heap c.take_range.new.heap.work.heap c.requires.heap c.in-Ok.ensures.covers c.in-Ok.ensures.within
     (g.S.ReadBytes.image c.args.space.now) (g.S.ReadBytes.image c.take_range.new.space) (g.S.ReadBytes.image c.store.new.space) c.take_range.ensures.bytes (subst (λ m. Both (KeepsOutside c.in-Ok.place m) (g.S.ReadBytes.image c.take_range.new.space) (g.S.ReadBytes.image c.store.new.space)) (ap length c.deref.ensures.value ∙ c.in-Ok-table_text.ensures.long) c.store.ensures.bytes)
+
+pub returns-in-Ok-store-clause-waits : goal.returns-in-Ok-store-clause-waits
+returns-in-Ok-store-clause-waits g c =
+    let long : length c.deref.result.now ≡ 44 + 24 * length c.args.chunks.now = ap length c.deref.ensures.value ∙ c.in-Ok-table_text.ensures.long in
+    let t = c.take_range.ensures.waits in let w = c.store.ensures.waits in let f = few_blocks c.in-Ok.place (length c.deref.result.now) in omega (arith, t, w, f, long)

@@ -2,7 +2,8 @@ use Rattle.std.proofs.Common.{◌≤◌, ◌-◌, length}
 use Rattle.cg_io.specs.Blocks.{Both}
 use Rattle.cg_io.specs.Answers.{OnlyReads}
 use Rattle.adf_data.specs.Chunks.{parts_of}
-use Rattle.adf_data.specs.Ranges.{IsSpot, WritesBytes}
+use Rattle.cg_io.specs.Waits.{WaitsOnly}
+use Rattle.adf_data.specs.Ranges.{IsSpot, WritesBytes, HasByte}
 use Rattle.adf_data.proofs.ranges.write_range.Given as goal
 
 abbrev pub invariant-loop-done : goal.invariant-loop-done
@@ -12,6 +13,7 @@ invariant-loop-done g l = record {
   looks : OnlyReads (g.S.ReadBytes.state l.fn.space) (g.S.ReadBytes.state l.space);
   spot : IsSpot (parts_of l.chunks) l.spot;
   written : Both (WritesBytes (parts_of l.chunks) l.first l.from l.done) (g.S.ReadBytes.image l.fn.space) (g.S.ReadBytes.image l.space);
+  waits : WaitsOnly (HasByte (parts_of l.chunks) l.first (length l.from)) (g.S.ReadBytes.waiting l.fn.space) (g.S.ReadBytes.waiting l.space);
 }
 
 abbrev pub decreases-loop-done : goal.decreases-loop-done

@@ -1,16 +1,19 @@
-use Rattle.std.proofs.Common.{◌≡◌, List, sym, subst}
+use Rattle.std.proofs.Common.{◌≡◌, List, length, ap, ◌∙◌, arith, sym, subst}
 use Rattle.std.specs.List.{All}
 use Rattle.cg_io.specs.Blocks.{Both}
 use Rattle.adf_format.specs.Placement.{NodeParts}
 use Rattle.adf_format.specs.HeapRule.{payload_length}
 use Rattle.adf_model.specs.declared.lists.Run.{Run}
 use Rattle.adf_data.specs.declared.chunks.Chunk.{Chunk}
-use Rattle.adf_data.specs.Chunks.{parts_of, Named, NoneNamed}
+use Rattle.adf_data.specs.Chunks.{part_of, parts_of, Named, NoneNamed}
 use Rattle.adf_data.specs.Runs.{EndsIn, NoRuns, WritesRuns}
 use Rattle.file_heap.proofs.Effects.{on_ok}
 use Rattle.cg_io.proofs.ReadLaws.{refused_for, all_refused_later}
 use Rattle.adf_data.proofs.DataLaws.{unnamed_runs, unread_runs}
 use Rattle.adf_data.proofs.StayLaws.{elements_written, alone_changes}
+use Rattle.adf_data.proofs.BlockLaws.{counted_data}
+use Rattle.cg_io.specs.Waits.{how_many}
+use Rattle.std.proofs.lemmas.List.{length-map}
 use Rattle.adf_data.proofs.runs.write_runs.Goals as goal
 
 pub returns-in-Err-clause-cause : goal.returns-in-Err-clause-cause
@@ -39,3 +42,8 @@ returns-clause-cause g c =
     (subst (λ (cs : List Chunk). (parts : NodeParts) → Named c.args.at.now parts (g.S.ReadBytes.image c.args.space.now) → parts_of cs ≡ parts.chunks) (sym c.deref.ensures.value) c.in-Ok.ensures.says)
     (λ all. none (subst (All (EndsIn c.args.element (payload_length (parts_of c.deref.result.now)))) (sym c.items.ensures) all)))
     c.write_bytes.ensures.cause
+
+pub returns-clause-waits : goal.returns-clause-waits
+returns-clause-waits g c = λ limit ends.
+    let z = counted_data (parts_of c.deref.result.now) 0 limit (g.S.ReadBytes.waiting c.list_chunks.new.space) (g.S.ReadBytes.waiting c.write_bytes.new.space) (c.write_bytes.ensures.only limit (subst (All (EndsIn c.args.element limit)) (sym c.items.ensures) ends)) in
+    let m = length-map c.deref.result.now part_of in let k = ap length c.deref.ensures.value ∙ c.in-Ok.ensures.count in let s = ap how_many c.list_chunks.ensures.waits in omega (arith, z, m, k, s)

@@ -1,15 +1,18 @@
-use Rattle.std.proofs.Common.{◌≡◌, ◌≤◌, ◌+◌, ◌-◌, ℕ, List, arith, sym, subst, ◌∙◌}
+use Rattle.std.proofs.Common.{◌≡◌, ◌≤◌, ◌+◌, ◌-◌, ℕ, List, length, ap, arith, sym, subst, ◌∙◌}
 use Rattle.std.specs.Prelude.{Option}
 use Rattle.file_heap.proofs.Effects.{on_ok}
 use Rattle.adf_format.specs.Placement.{NodeParts}
 use Rattle.adf_format.specs.HeapRule.{payload_length}
 use Rattle.adf_model.specs.declared.error.AdfError.TheVariants as error
 use Rattle.adf_data.specs.declared.chunks.Chunk.{Chunk}
-use Rattle.adf_data.specs.Chunks.{parts_of, Named, NoneNamed}
+use Rattle.adf_data.specs.Chunks.{part_of, parts_of, Named, NoneNamed}
 use Rattle.adf_data.specs.Sizes.{extents_in, Ungivable}
-use Rattle.adf_data.specs.Growing.{Owns}
+use Rattle.adf_data.specs.Growing.{Owns, WaitsToGrow}
 use Rattle.adf_data.proofs.HeapWords.{grow_later, grown_later}
 use Rattle.adf_data.proofs.SizeLaws.{owns_named, too_short, unowned, full_for, sized_bytes, cleared_bytes, all_resize, all_cleared, same_refusal}
+use Rattle.adf_data.proofs.BlockLaws.{counted_data}
+use Rattle.cg_io.specs.Waits.{how_many}
+use Rattle.std.proofs.lemmas.List.{length-map}
 use Rattle.adf_data.proofs.sizes.resize.Goals as goal
 
 pub returns-in-Err-clause-cause : goal.returns-in-Err-clause-cause
@@ -52,3 +55,14 @@ pub returns-clause-cause : goal.returns-clause-cause
 returns-clause-cause g c =
     grown_later (Ungivable (g.S.ReadBytes.image c.list_chunks.new.space) (extents_in c.table_in-table.result (parts_of c.deref-2.result.now)) c.args.heap.now.work.heap) ((parts : NodeParts) (bytes : Option (List ℕ)) → Owns c.args.at.now c.args.old parts bytes c.args.heap.now.work.heap (g.S.ReadBytes.image c.args.space.now) → ⊥) (g.S.ReadBytes.state c.args.space.now).faults (g.S.ReadBytes.state c.list_chunks.new.space).faults (g.S.ReadBytes.state c.grow.new.space).faults c.in-Err-grow.error c.list_chunks.ensures.effect.faults
     (unowned c.args.at.now c.deref-2.result.now c.table_in-table.result (g.S.ReadBytes.image c.args.space.now) (g.S.ReadBytes.image c.list_chunks.new.space) c.list_chunks.ensures.image (subst (λ (cs : List Chunk). (parts : NodeParts) → Named c.args.at.now parts (g.S.ReadBytes.image c.args.space.now) → parts_of cs ≡ parts.chunks) (sym c.deref-2.ensures.value) c.in-Ok.ensures.says) (λ q m. c.table_in-table.ensures.says q (g.S.ReadBytes.image c.args.space.now) m) c.args.old c.args.heap.now.work.heap) c.in-Err-grow.ensures.cause
+
+pub returns-then-new-have-clause-waits : goal.returns-then-new-have-clause-waits
+returns-then-new-have-clause-waits g c =
+    let z = counted_data (parts_of c.deref-then-new-have.result.now) c.args.old (c.args.new - c.args.old) (g.S.ReadBytes.waiting c.list_chunks.new.space) (g.S.ReadBytes.waiting c.clear_between.new.space) c.clear_between.ensures.only in
+    let m = length-map c.deref-then-new-have.result.now part_of in let k = ap length c.deref-then-new-have.ensures.value ∙ c.in-Ok.ensures.count in let s = ap how_many c.list_chunks.ensures.waits in
+    on_ok c.clear_between.result (λ _. ((λ few. omega (arith, z, m, k, s)), omega (arith, z, m, k, s))) c.clear_between.ensures.zeroed
+
+pub returns-in-Ok-grow-clause-waits : goal.returns-in-Ok-grow-clause-waits
+returns-in-Ok-grow-clause-waits g c =
+    subst (λ (blocks : List ℕ). WaitsToGrow c.args.at.now.count c.args.old c.args.new blocks (g.S.ReadBytes.waiting c.grow.new.space)) c.list_chunks.ensures.waits
+    (subst (λ n. WaitsToGrow n c.args.old c.args.new (g.S.ReadBytes.waiting c.list_chunks.new.space) (g.S.ReadBytes.waiting c.grow.new.space)) (ap length c.deref-2.ensures.value ∙ c.in-Ok.ensures.count) c.in-Ok-grow.ensures.waits)
