@@ -8,8 +8,8 @@ use std::process::Abort;
 use std::test::Fail;
 use test_spaces::Bytes;
 
-/// Each kind of call: all ways to grow but gathering, a write, a read and a release.
-const CALLS: [Step; 6] = [
+/// Each kind of call: all ways to grow but gathering, a write, a read, a release, and what is put anew.
+const CALLS: [Step; 9] = [
     Step::Resize { old: 0, new: 100 },
     Step::Resize { old: 100, new: 150 },
     Step::Resize { old: 150, new: 160 },
@@ -24,6 +24,14 @@ const CALLS: [Step; 6] = [
         are: b"abcdefghijklmnop",
     },
     Step::Release,
+    Step::Put { bytes: b"abcde" },
+    Step::Release,
+    Step::PutPart {
+        size: 100,
+        element: 4,
+        runs: &[(24, 1), (0, 1)],
+        bytes: b"abcdwxyz",
+    },
 ];
 
 // Makes a heap and all calls, up to the first that is refused.

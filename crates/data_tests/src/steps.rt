@@ -8,7 +8,7 @@ ghost use Rattle.file_heap.specs.Heap.{IsHeap};
 ghost use Rattle.adf_data.specs.Runs.{EndsIn, run_bytes};
 
 use adf_chunks::{Extent, ExtentKind, Extents};
-use adf_data::{DataPlace, read_runs, release, resize, write_runs};
+use adf_data::{DataPlace, put_part, put_whole, read_runs, release, resize, write_runs};
 use adf_model::{AdfError, Listing, Run, Runs};
 use disk_ptr::{DiskPtr, encode, from_place, place};
 use file_heap::Heap;
@@ -31,6 +31,17 @@ pub enum Step {
         end: u64,
     },
     Release,
+    /// Data are put where there were none.
+    Put {
+        bytes: &'static [u8],
+    },
+    /// Elements of data of a size are put where there were none.
+    PutPart {
+        size: u64,
+        element: u64,
+        runs: &'static [(u64, u64)],
+        bytes: &'static [u8],
+    },
     /// Elements from one on are written over with these bytes.
     Write {
         element: u64,
@@ -209,6 +220,69 @@ fn releases(
     release(alloc, heap, space, at)
 }
 
+// Puts all data.
+fn puts(
+    heap: &mut Heap,
+    space: &mut Bytes,
+    at: &mut DataPlace,
+    bytes: &[u8],
+) -> Result<(), AdfError>
+    requires heap { IsHeap heap.old.work.heap }
+    requires offset { HasOffset at.old.pointer }
+    ensures heap { IsHeap heap.new.work.heap }
+    ensures offset { HasOffset at.new.pointer }
+{
+    if bytes.is_empty() || bytes.len() > 1 << 30 {
+        return Err(NOT_CALLED);
+    }
+    *at = put_whole(heap, space, bytes)?;
+    Ok(())
+}
+
+// Whether all runs end within data of this size.
+fn are_within(runs: &[Run], element: u64, size: u64) -> bool
+    requires small { All (EndsIn element (2 ^ 30)) runs.now }
+    ensures { IsTrue result → All (EndsIn element size) runs.now }
+{
+    match runs {
+        [] => true,
+        [run, rest @ ..] => {
+            (run.first + run.count) * element <= size && are_within(rest, element, size)
+        }
+    }
+}
+
+// Puts elements of data.
+#[tactic(auto, using(adf_data::proofs::WriteLaws::bytes_of_spread))]
+fn puts_part(
+    alloc: Global,
+    heap: &mut Heap,
+    space: &mut Bytes,
+    at: &mut DataPlace,
+    size: u64,
+    element: u64,
+    list: &[(u64, u64)],
+    bytes: &[u8],
+) -> Result<(), AdfError>
+    requires heap { IsHeap heap.old.work.heap }
+    requires offset { HasOffset at.old.pointer }
+    ensures heap { IsHeap heap.new.work.heap }
+    ensures offset { HasOffset at.new.pointer }
+{
+    let runs = runs_of(alloc, list)?;
+    if !are_small(runs.items(), element) || runs.items().len() > 1 << 10 {
+        return Err(NOT_CALLED);
+    }
+    if bytes_of(runs.items(), element) != bytes.len() as u64 {
+        return Err(NOT_CALLED);
+    }
+    if size == 0 || size > 1 << 30 || !are_within(runs.items(), element, size) {
+        return Err(NOT_CALLED);
+    }
+    *at = put_part(heap, space, size, element, &runs, bytes)?;
+    Ok(())
+}
+
 // Whether the limit refuses a size with these numbers; another refusal is handed on.
 fn is_full(answer: Result<(), AdfError>, wanted: AdfError) -> Result<bool, AdfError> {
     match answer {
@@ -247,6 +321,19 @@ fn make(
         ),
         Step::Release => {
             releases(alloc, heap, space, at)?;
+            Ok(true)
+        }
+        Step::Put { bytes } => {
+            puts(heap, space, at, bytes)?;
+            Ok(true)
+        }
+        Step::PutPart {
+            size,
+            element,
+            runs,
+            bytes,
+        } => {
+            puts_part(alloc, heap, space, at, size, element, runs, bytes)?;
             Ok(true)
         }
         Step::Write {

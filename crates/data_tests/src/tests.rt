@@ -363,3 +363,54 @@ fn as_many_chunks_as_a_table_lists_are_gathered(rt: HostRuntime) -> Result<(), F
     };
     run_at(&rt, rt.alloc(), space, at, 2_999_999, 4096, &A_CROWDED_FILE)
 }
+
+// A chunk is at least 32 bytes long, and zeros stand behind its data.
+const PUT: [Step; 11] = [
+    Step::Put { bytes: b"abcde" },
+    Step::One { place: 1130 },
+    Step::Length { is: 32 },
+    Step::End { is: 1161 },
+    Step::Bytes {
+        at: 1146,
+        are: b"abcde\0\0\0\0\0\0\0dEnD",
+    },
+    Step::Release,
+    Step::Put { bytes: &HUNDRED },
+    Step::One { place: 1130 },
+    Step::Length { is: 120 },
+    Step::End { is: 1249 },
+    Step::Read {
+        element: 50,
+        runs: &[(0, 2)],
+        are: &HUNDRED,
+    },
+];
+
+#[test]
+fn data_are_put_where_there_are_none(rt: HostRuntime) -> Result<(), Fail> {
+    let space = Bytes::new(rt.alloc(), 4096)?;
+    run_on(&rt, rt.alloc(), space, 1129, 1, &PUT)
+}
+
+const PUT_IN_PART: [Step; 5] = [
+    Step::PutPart {
+        size: 100,
+        element: 4,
+        runs: &[(24, 1), (0, 1)],
+        bytes: b"abcdwxyz",
+    },
+    Step::One { place: 1130 },
+    Step::Length { is: 120 },
+    Step::End { is: 1249 },
+    Step::Read {
+        element: 4,
+        runs: &[(0, 2), (23, 2)],
+        are: b"wxyz\0\0\0\0\0\0\0\0abcd",
+    },
+];
+
+#[test]
+fn elements_are_put_over_zeros(rt: HostRuntime) -> Result<(), Fail> {
+    let space = Bytes::new(rt.alloc(), 4096)?;
+    run_on(&rt, rt.alloc(), space, 1129, 1, &PUT_IN_PART)
+}
