@@ -23,3 +23,7 @@ pub mod CopyLaws
 pub mod Giving
 pub mod TableWritten
 pub mod LongerDone
+pub mod RoomsTaken
+pub mod Replaces
+pub mod LinkTexts
+pub mod LinkPut

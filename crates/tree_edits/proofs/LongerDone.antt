@@ -23,7 +23,7 @@ use Rattle.tree_edits.specs.Joined.{OwnsTable, AreRangesApart, WritesTable, Give
 use Rattle.tree_edits.proofs.Ready.{taken_beside, may_after, own_apart}
 
 -- what may be given lies beside the lists
-beside_of : (from many : ℕ) (heap : Heap) → MayGive from many heap → AreBeside (extent ExtentKind.Node from many ∷ []) heap.gaps
+pub beside_of : (from many : ℕ) (heap : Heap) → MayGive from many heap → AreBeside (extent ExtentKind.Node from many ∷ []) heap.gaps
 beside_of from many heap may = record {
   table = λ b low high. let out = range_out from many b (inl (let l = may.low in omega (arith, l, high))) in omega (arith, out);
   chunks = λ b some. by_start b some (less_or b from);

@@ -9,3 +9,4 @@ pub mod Taken
 pub mod Copies
 pub mod Joined
 pub mod Created
+pub mod Linked

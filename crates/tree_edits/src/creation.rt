@@ -70,7 +70,11 @@ fn write_text<S: Space, const N: usize>(
 }
 
 // Writes the header of a new node.
-fn write_header<S: Space>(space: &mut S, place: u64, header: &NodeHeader) -> Result<(), AdfError>
+pub(crate) fn write_header<S: Space>(
+    space: &mut S,
+    place: u64,
+    header: &NodeHeader,
+) -> Result<(), AdfError>
     requires sound { S.is_sound space.old }
     requires offsets { HasOffsets header.now }
     requires within { place + node_length header.now.wide ≤ 2 ^ 44 }

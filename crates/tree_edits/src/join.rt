@@ -25,7 +25,11 @@ use file_heap::Heap;
 use node_reads::name_field;
 
 // Lists a child in an unused entry, and counts it.
-fn join_unused<S: Space>(space: &mut S, parent: Parent, entry: &[u8; 44]) -> Result<(), AdfError>
+pub(crate) fn join_unused<S: Space>(
+    space: &mut S,
+    parent: Parent,
+    entry: &[u8; 44],
+) -> Result<(), AdfError>
     requires sound { S.is_sound space.old }
     requires header { parent.row.place + 246 ≤ 2 ^ 44 }
     requires table { parent.table.place + table_length parent.table.entries ≤ 2 ^ 44 }
@@ -49,7 +53,7 @@ fn join_unused<S: Space>(space: &mut S, parent: Parent, entry: &[u8; 44]) -> Res
 }
 
 // The entry of a child whose header stands at a place.
-fn entry_of(name: &[u8], place: u64) -> [u8; 44]
+pub(crate) fn entry_of(name: &[u8], place: u64) -> [u8; 44]
     requires name { length name.now ≤ 32 }
     requires near { place < 2 ^ 44 }
     ensures { result ≡ entry_text (text_field 32 name.now) (To place) }

@@ -5,9 +5,12 @@
 
 #![tactic(auto)]
 
+mod chunk;
 mod creation;
 mod join;
 mod label;
+mod link_parts;
+mod link_rooms;
 mod listed;
 mod longer;
 mod memory;

@@ -9,6 +9,7 @@ ghost use Rattle.file_heap.specs.Heap.{IsThreaded, MayGive};
 ghost use Rattle.tree_edits.specs.Copies.{Copies, Clears};
 ghost use Rattle.tree_edits.specs.Taken.{IsReady, KeepsHeap, IsRoomless, LacksBytes};
 ghost use Rattle.tree_edits.specs.Joined.{OwnsTable, JoinsLonger, WritesTable, GivesTable, table_fields};
+ghost use Rattle.tree_edits.specs.Linked.{MayReplace, ReplacesTable};
 
 use crate::room::Parent;
 use adf_chunks::{Part, encode_head, tail};
@@ -165,7 +166,7 @@ fn write_table<S: Space>(
 }
 
 // The entries of the table that takes the place of a full one of so many.
-fn grown(count: u32) -> u32
+pub(crate) fn grown(count: u32) -> u32
     requires { count ≤ 2 ^ 20 }
     ensures { result ≡ grown_entries count }
 {
@@ -211,6 +212,47 @@ fn fields_of_table(count: u32, place: u64) -> [u8; 28]
     let next = put_number(&mut fields, next, u64::from(grown(count)), 8);
     put_pointer(&mut fields, next, from_place(place));
     fields
+}
+
+// Writes a longer table in room that was taken for it, which the header of the parent then names, and gives the old one.
+pub(crate) fn replace_table<S: Space>(
+    space: &mut S,
+    heap: &mut Heap,
+    parent: Parent,
+    place: u64,
+    entry: &[u8; 44],
+) -> Result<(), AdfError>
+    requires sound { S.is_sound space.old }
+    requires ready { IfSome (S.image space.old) (MayReplace parent place heap.old.work) }
+    requires header { parent.row.place + 246 ≤ 2 ^ 44 }
+    requires table { parent.table.place + table_length parent.table.entries ≤ 2 ^ 44 }
+    requires few { parent.table.count < 2 ^ 20 }
+    requires full { parent.table.entries ≡ parent.table.count }
+    requires near { place + table_length (grown_entries parent.table.count) ≤ 2 ^ 44 }
+    ensures replaced { OnOk result (Both (ReplacesTable parent place entry.now heap.old.work
+        heap.new.work) (S.image space.old) (S.image space.new)) }
+    ensures kept { KeepsHeap heap.old heap.new }
+    ensures writes { AnswersWrite S.is_sound S.state S.waiting
+        (24 + table_length (grown_entries parent.table.count) / 4096) OnlyReads
+        (IsRefusal (IsUntold (S.image space.old))) space.old space.new result }
+{
+    match write_table(space, parent.table, place, entry) {
+        Ok(()) => {}
+        Err(error) => return Err(error),
+    }
+    let fields = fields_of_table(parent.table.count, place);
+    match write_field(
+        space,
+        parent.row.place + NODE_CHILDREN.offset as u64,
+        &fields,
+    ) {
+        Ok(()) => {}
+        Err(error) => return Err(error),
+    }
+    match give_table(space, heap, parent.table) {
+        Ok(()) => Ok(()),
+        Err(error) => Err(error),
+    }
 }
 
 /// Lists a child in a longer table, whose place the header of the parent then names, and gives the old one.
