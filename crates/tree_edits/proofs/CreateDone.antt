@@ -68,7 +68,7 @@ module _ (core : Core) (at : NodeId) (name label : List ℕ) (parent : Parent) w
   abbrev edit : Edit
   edit = Edit.Create at name label
 
-  owns : (image : List ℕ) → MayCreate core at name label (Some image) parent → (tree : Tree) (p : Placement) → Means image tree p (memory_of core) → OwnsTable parent core.heap.work.heap image
+  pub owns : (image : List ℕ) → MayCreate core at name label (Some image) parent → (tree : Tree) (p : Placement) → Means image tree p (memory_of core) → OwnsTable parent core.heap.work.heap image
   owns image may tree p m = record {
     header = live_may image tree p core m (parent.row.place + 68) 28 (omega arith) (λ b low high.
         header_own image tree p at.serial (up image core at name label parent may tree p m).parts m.laid_out (up image core at name label parent may tree p m).is.stands parent.row.place (up image core at name label parent may tree p m).at 68 28 (omega arith) b (let held = range_in (parent.row.place + 68) 28 b low high in omega (arith, held)));

@@ -53,23 +53,23 @@ text_kept limit n place m at text other was now z a c some f may t =
         let gaps = may.apart b low high in
         omega (arith, end, table, gaps)
 
-some_entries : (n : ℕ) → 0 < n → nat_lt 0 n ≡ true
+pub some_entries : (n : ℕ) → 0 < n → nat_lt 0 n ≡ true
 some_entries n lt = grind (arith, nat_tests)
 
 -- the header of a node in a list of which one has another table
-same_header : (xs : List (Option NodeParts)) (s k : ℕ) (from : NodeParts) (now : NodeParts) → get_or xs s None ≡ Some from → now.header ≡ from.header → (parts_or_none (get_or (slice_set xs s (Some now)) k None)).header ≡ (parts_or_none (get_or xs k None)).header
+pub same_header : (xs : List (Option NodeParts)) (s k : ℕ) (from : NodeParts) (now : NodeParts) → get_or xs s None ≡ Some from → now.header ≡ from.header → (parts_or_none (get_or (slice_set xs s (Some now)) k None)).header ≡ (parts_or_none (get_or xs k None)).header
 same_header [] s k from now e same = refl
 same_header (x ∷ xs) zero zero from now e same = same ∙ sym (ap (λ (o : Option NodeParts). (parts_or_none o).header) e)
 same_header (x ∷ xs) zero (suc k) from now e same = refl
 same_header (x ∷ xs) (suc s) zero from now e same = refl
 same_header (x ∷ xs) (suc s) (suc k) from now e same = same_header xs s k from now e same
 
-length_set : (xs : List (Option NodeParts)) (s : ℕ) (y : Option NodeParts) → length (slice_set xs s y) ≡ length xs
+pub length_set : (xs : List (Option NodeParts)) (s : ℕ) (y : Option NodeParts) → length (slice_set xs s y) ≡ length xs
 length_set [] s y = refl
 length_set (x ∷ xs) zero y = refl
 length_set (x ∷ xs) (suc s) y = ap suc (length_set xs s y)
 
-last_of : (xs : List (Option NodeParts)) (y : Option NodeParts) → get_or (xs ++ y ∷ []) (length xs) None ≡ y
+pub last_of : (xs : List (Option NodeParts)) (y : Option NodeParts) → get_or (xs ++ y ∷ []) (length xs) None ≡ y
 last_of [] y = refl
 last_of (x ∷ xs) y = last_of xs y
 

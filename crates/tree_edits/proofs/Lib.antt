@@ -23,7 +23,12 @@ pub mod CopyLaws
 pub mod Giving
 pub mod TableWritten
 pub mod LongerDone
+pub mod Links
 pub mod RoomsTaken
 pub mod Replaces
 pub mod LinkTexts
 pub mod LinkPut
+pub mod LinkMade
+pub mod LinkLonger
+pub mod LinkRefused
+pub mod LinkDone

@@ -10,3 +10,4 @@ pub mod Copies
 pub mod Joined
 pub mod Created
 pub mod Linked
+pub mod Linkable

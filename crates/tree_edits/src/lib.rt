@@ -11,6 +11,7 @@ mod join;
 mod label;
 mod link_parts;
 mod link_rooms;
+mod linking;
 mod listed;
 mod longer;
 mod memory;
@@ -20,6 +21,7 @@ mod rows;
 
 pub use creation::create;
 pub use label::set_label;
+pub use linking::link;
 pub use memory::Core;
 pub use name::rename;
 pub use rows::{Row, Rows};
