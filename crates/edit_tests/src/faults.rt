@@ -4,8 +4,8 @@ use std::alloc::Global;
 use std::process::Abort;
 use std::test::Fail;
 
-/// Labels and names, a child in an unused entry, and one in a longer table.
-const EDITS: [Step; 4] = [
+/// Labels and names, a child in an unused entry, a link in a longer table, and one in an unused entry.
+const EDITS: [Step; 5] = [
     Step::Label {
         node: 1,
         label: b"CGNSBase_t",
@@ -19,10 +19,19 @@ const EDITS: [Step; 4] = [
         name: b"D",
         serial: 6,
     },
-    Step::Child {
+    Step::Link {
         of: 0,
         name: b"E",
+        file: b"other.cgns",
+        path: b"/Base/Zone",
         serial: 7,
+    },
+    Step::Link {
+        of: 1,
+        name: b"F",
+        file: b"",
+        path: b"/",
+        serial: 8,
     },
 ];
 

@@ -6,6 +6,8 @@ mod faults;
 #[cfg(test)]
 mod files;
 #[cfg(test)]
+mod links;
+#[cfg(test)]
 mod steps;
 #[cfg(test)]
 mod tests;

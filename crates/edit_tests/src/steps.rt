@@ -9,7 +9,7 @@ use std::alloc::Global;
 use std::process::Abort;
 use std::test::Fail;
 use test_spaces::Bytes;
-use tree_edits::{Core, Row, Rows, create, rename, set_label};
+use tree_edits::{Core, Row, Rows, create, link, rename, set_label};
 
 /// An edit, or what is expected where it stands.
 #[derive(Clone, Copy)]
@@ -45,6 +45,22 @@ pub enum Step {
         of: u64,
         name: &'static [u8],
         label: &'static [u8],
+        error: AdfError,
+    },
+    /// A new link, and its serial.
+    Link {
+        of: u64,
+        name: &'static [u8],
+        file: &'static [u8],
+        path: &'static [u8],
+        serial: u64,
+    },
+    /// A new link that is refused.
+    NoLink {
+        of: u64,
+        name: &'static [u8],
+        file: &'static [u8],
+        path: &'static [u8],
         error: AdfError,
     },
     /// Bytes that are put into the space behind the edits' back.
@@ -146,6 +162,28 @@ fn creates(
     create(space, core, NodeId { file: 0, serial }, name, label)
 }
 
+fn links(
+    alloc: Global,
+    space: &mut Bytes,
+    core: &mut Core,
+    serial: u64,
+    name: &[u8],
+    to: (&[u8], &[u8]),
+) -> Result<u64, AdfError> {
+    if !core.rows.are_near(core.wide) {
+        return Err(NOT_CALLED);
+    }
+    link(
+        alloc,
+        space,
+        core,
+        NodeId { file: 0, serial },
+        name,
+        to.0,
+        to.1,
+    )
+}
+
 // Whether an edit is refused with an error; where it wants memory or a read failed otherwise, that is the answer.
 fn is_refused(answer: Result<(), AdfError>, wanted: AdfError) -> Result<bool, AdfError> {
     match answer {
@@ -157,7 +195,7 @@ fn is_refused(answer: Result<(), AdfError>, wanted: AdfError) -> Result<bool, Ad
 }
 
 // Makes an edit, and tells whether it answered as expected.
-fn make(space: &mut Bytes, core: &mut Core, step: Step) -> Result<bool, AdfError> {
+fn make(alloc: Global, space: &mut Bytes, core: &mut Core, step: Step) -> Result<bool, AdfError> {
     match step {
         Step::Label { node, label } => {
             labels(space, core, node, label)?;
@@ -183,6 +221,23 @@ fn make(space: &mut Bytes, core: &mut Core, step: Step) -> Result<bool, AdfError
             Ok(_) => Ok(false),
             Err(answer) => is_refused(Err(answer), error),
         },
+        Step::Link {
+            of,
+            name,
+            file,
+            path,
+            serial,
+        } => Ok(links(alloc, space, core, of, name, (file, path))? == serial),
+        Step::NoLink {
+            of,
+            name,
+            file,
+            path,
+            error,
+        } => match links(alloc, space, core, of, name, (file, path)) {
+            Ok(_) => Ok(false),
+            Err(answer) => is_refused(Err(answer), error),
+        },
         Step::Put { at, bytes } => Ok(space.put(at, bytes)),
         _ => Ok(true),
     }
@@ -200,13 +255,14 @@ fn is_so(space: &Bytes, made: &Bytes, step: Step) -> bool {
 /// Takes steps up to the first edit that is refused, and stops the test at one that is not as expected.
 fn run(
     rt: &impl Abort,
+    alloc: Global,
     space: &mut Bytes,
     made: &Bytes,
     core: &mut Core,
     steps: &[Step],
 ) -> Result<(), AdfError> {
     for (i, step) in steps.iter().enumerate() {
-        assert!(rt; make(space, core, *step)?, "at step {i}");
+        assert!(rt; make(alloc, space, core, *step)?, "at step {i}");
         assert!(rt; is_so(space, made, *step), "at step {i}");
     }
     Ok(())
@@ -223,7 +279,7 @@ pub fn run_on(
     let mut space = four_nodes(alloc, wide)?;
     let made = space.copy(alloc)?;
     let mut core = new_core(alloc, &mut space, wide, writable)?;
-    run(rt, &mut space, &made, &mut core, steps)?;
+    run(rt, alloc, &mut space, &made, &mut core, steps)?;
     Ok(())
 }
 
@@ -247,7 +303,7 @@ pub fn run_failing(
     space.calls = 0;
     space.failing = failing;
     space.memory = memory;
-    match run(rt, &mut space, &made, &mut core, steps) {
+    match run(rt, alloc, &mut space, &made, &mut core, steps) {
         Ok(()) => {
             assert!(rt; space.calls < failing);
             Ok(false)
