@@ -24,8 +24,8 @@ pub(crate) struct Rooms {
     pub(crate) chunk: u64,
 }
 
-// Takes so many bytes: their place.
-fn take_room<S: Space>(space: &mut S, heap: &mut Heap, n: u64) -> Result<u64, AdfError>
+/// Takes so many bytes: their place.
+pub(crate) fn take_room<S: Space>(space: &mut S, heap: &mut Heap, n: u64) -> Result<u64, AdfError>
     requires sound { S.is_sound space.old }
     requires some { 1 ≤ n }
     requires few { n ≤ 2 ^ 44 }

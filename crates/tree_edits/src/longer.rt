@@ -11,6 +11,7 @@ ghost use Rattle.tree_edits.specs.Taken.{IsReady, KeepsHeap, IsRoomless, LacksBy
 ghost use Rattle.tree_edits.specs.Joined.{OwnsTable, JoinsLonger, WritesTable, GivesTable, table_fields};
 ghost use Rattle.tree_edits.specs.Linked.{MayReplace, ReplacesTable};
 
+use crate::link_rooms::take_room;
 use crate::room::Parent;
 use adf_chunks::{Part, encode_head, tail};
 use adf_format::fields::NODE_CHILDREN;
@@ -278,24 +279,11 @@ pub(crate) fn join_longer<S: Space>(
         heap.old.work.heap) (IsUntold (S.image space.old))) space.old space.new result }
 {
     let length = 20 + 44 * u64::from(grown(parent.table.count));
-    let place = match heap.take(space, length) {
+    let place = match take_room(space, heap, length) {
         Ok(place) => place,
         Err(error) => return Err(error),
     };
-    match write_table(space, parent.table, place, entry) {
-        Ok(()) => {}
-        Err(error) => return Err(error),
-    }
-    let fields = fields_of_table(parent.table.count, place);
-    match write_field(
-        space,
-        parent.row.place + NODE_CHILDREN.offset as u64,
-        &fields,
-    ) {
-        Ok(()) => {}
-        Err(error) => return Err(error),
-    }
-    match give_table(space, heap, parent.table) {
+    match replace_table(space, heap, parent, place, entry) {
         Ok(()) => Ok(()),
         Err(error) => Err(error),
     }

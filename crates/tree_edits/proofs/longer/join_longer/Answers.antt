@@ -1,49 +1,59 @@
-use Rattle.std.proofs.Common.{◌≡◌, ◌+◌, ◌*◌, arith, subst}
+use Rattle.std.proofs.Common.{◌≡◌, ◌+◌, ◌*◌, ◌/◌, arith, subst}
 use Rattle.adf_format.specs.HeapRule.{grown_entries}
 use Rattle.adf_format.specs.RecordFields.{table_length}
+use Rattle.cg_io.specs.Answers.{IsUntold}
 use Rattle.cg_io.specs.Blocks.{Both}
-use Rattle.tree_edits.specs.Taken.{Takes}
-use Rattle.tree_edits.proofs.LongerDone.{threads_held, owned_held, joins_held}
-use Rattle.tree_edits.proofs.PutTwice.{put_fields}
-use Rattle.tree_edits.proofs.Taking.{takes_bytes}
+use Rattle.cg_io.proofs.ReadLaws.{few_only, only_then}
+use Rattle.tree_edits.specs.Linked.{longer_length}
+use Rattle.tree_edits.specs.Taken.{Takes, LacksBytes, IsRoomless}
+use Rattle.tree_edits.proofs.CreateDone.{told_both}
+use Rattle.tree_edits.proofs.LinkPut.{refused_behind}
+use Rattle.tree_edits.proofs.LongerDone.{may_replace_held, joins_held}
 use Rattle.tree_edits.proofs.longer.join_longer.Goals as goal
 
-pub give_table-requires-clause-threads : goal.give_table-requires-clause-threads
-give_table-requires-clause-threads g c =
-    let was = c.args.heap.now.work in
-    let now = c.take.new.self.work in
-    let table = c.args.parent.table in
-    let long : 20 + 44 * c.from.result ≡ table_length (grown_entries table.count) = omega (arith, c.from.ensures, c.grown.ensures) in
-    let one = subst (λ n. Both (Takes c.args.heap.now.limit n c.in-Ok.place was now) (g.S.ReadBytes.image c.args.space.now) (g.S.ReadBytes.image c.take.new.space)) long
-    (takes_bytes c.args.heap.now.limit (20 + 44 * c.from.result) c.in-Ok.place was now (g.S.ReadBytes.image c.args.space.now) (g.S.ReadBytes.image c.take.new.space) c.in-Ok.ensures.takes c.in-Ok.ensures.within c.in-Ok.ensures.tiles c.in-Ok.ensures.covers
-    c.in-Ok.ensures.changes.heap.order c.in-Ok.ensures.changes.threads c.in-Ok.ensures.changes.bytes c.in-Ok.ensures.changes.end c.in-Ok.ensures.changes.fillers) in
-    let three = put_fields (c.args.parent.row.place + 68) c.in-Ok.place table.count c.fields_of_table-fields.result (g.S.ReadBytes.image c.write_table.new.space) (g.S.ReadBytes.image c.write_field.new.space) c.fields_of_table-fields.ensures c.in-Ok-write_field.ensures.written c.in-Ok-write_field.ensures.bytes in
-    threads_held c.args.heap.now.limit c.in-Ok.place c.args.parent c.args.entry.now was now c.requires.full
-    (g.S.ReadBytes.image c.args.space.now) (g.S.ReadBytes.image c.take.new.space) (g.S.ReadBytes.image c.write_table.new.space) (g.S.ReadBytes.image c.write_field.new.space) c.requires.ready c.requires.own one c.in-Ok-write_table.ensures.written three
+pub returns-in-Err-clause-writes : goal.returns-in-Err-clause-writes
+returns-in-Err-clause-writes g c =
+    let heap = c.args.heap.now in
+    let long : 20 + 44 * c.from.result ≡ longer_length c.args.parent = omega (arith, c.from.ensures, c.grown.ensures) in
+    record {
+      sound = c.in-Err.ensures.writes.sound;
+      waits = omega (arith, c.in-Err.ensures.writes.waits);
+      effect = few_only 64 _ _ c.in-Err.ensures.writes.effect;
+      cause = subst (λ n. IsRoomless (LacksBytes heap.limit n heap.work.heap) (IsUntold (g.S.ReadBytes.image c.args.space.now)) (g.S.ReadBytes.state c.args.space.now).faults (g.S.ReadBytes.state c.take_room.new.space).faults c.in-Err.error) long c.in-Err.ensures.writes.cause;
+    }
 
-pub give_table-requires-clause-own : goal.give_table-requires-clause-own
-give_table-requires-clause-own g c =
-    let was = c.args.heap.now.work in
-    let now = c.take.new.self.work in
-    let table = c.args.parent.table in
-    let long : 20 + 44 * c.from.result ≡ table_length (grown_entries table.count) = omega (arith, c.from.ensures, c.grown.ensures) in
-    let one = subst (λ n. Both (Takes c.args.heap.now.limit n c.in-Ok.place was now) (g.S.ReadBytes.image c.args.space.now) (g.S.ReadBytes.image c.take.new.space)) long
-    (takes_bytes c.args.heap.now.limit (20 + 44 * c.from.result) c.in-Ok.place was now (g.S.ReadBytes.image c.args.space.now) (g.S.ReadBytes.image c.take.new.space) c.in-Ok.ensures.takes c.in-Ok.ensures.within c.in-Ok.ensures.tiles c.in-Ok.ensures.covers
-    c.in-Ok.ensures.changes.heap.order c.in-Ok.ensures.changes.threads c.in-Ok.ensures.changes.bytes c.in-Ok.ensures.changes.end c.in-Ok.ensures.changes.fillers) in
-    let three = put_fields (c.args.parent.row.place + 68) c.in-Ok.place table.count c.fields_of_table-fields.result (g.S.ReadBytes.image c.write_table.new.space) (g.S.ReadBytes.image c.write_field.new.space) c.fields_of_table-fields.ensures c.in-Ok-write_field.ensures.written c.in-Ok-write_field.ensures.bytes in
-    owned_held c.args.heap.now.limit c.in-Ok.place c.args.parent c.args.entry.now was now c.requires.full
-    (g.S.ReadBytes.image c.args.space.now) (g.S.ReadBytes.image c.take.new.space) (g.S.ReadBytes.image c.write_table.new.space) (g.S.ReadBytes.image c.write_field.new.space) c.requires.ready c.requires.own one c.in-Ok-write_table.ensures.written three
+pub replace_table-requires-clause-ready : goal.replace_table-requires-clause-ready
+replace_table-requires-clause-ready g c =
+    let heap = c.args.heap.now in
+    let long : 20 + 44 * c.from.result ≡ longer_length c.args.parent = omega (arith, c.from.ensures, c.grown.ensures) in
+    may_replace_held heap.limit c.in-Ok.place c.args.parent c.args.entry.now heap.work c.take_room.new.heap.work c.requires.full (g.S.ReadBytes.image c.args.space.now) (g.S.ReadBytes.image c.take_room.new.space) c.requires.ready c.requires.own
+    (subst (λ n. Both (Takes heap.limit n c.in-Ok.place heap.work c.take_room.new.heap.work) (g.S.ReadBytes.image c.args.space.now) (g.S.ReadBytes.image c.take_room.new.space)) long c.in-Ok.ensures.takes)
 
-pub returns-in-Ok-give_table-clause-joined : goal.returns-in-Ok-give_table-clause-joined
-returns-in-Ok-give_table-clause-joined g c =
-    let was = c.args.heap.now.work in
-    let now = c.take.new.self.work in
-    let table = c.args.parent.table in
-    let long : 20 + 44 * c.from.result ≡ table_length (grown_entries table.count) = omega (arith, c.from.ensures, c.grown.ensures) in
-    let one = subst (λ n. Both (Takes c.args.heap.now.limit n c.in-Ok.place was now) (g.S.ReadBytes.image c.args.space.now) (g.S.ReadBytes.image c.take.new.space)) long
-    (takes_bytes c.args.heap.now.limit (20 + 44 * c.from.result) c.in-Ok.place was now (g.S.ReadBytes.image c.args.space.now) (g.S.ReadBytes.image c.take.new.space) c.in-Ok.ensures.takes c.in-Ok.ensures.within c.in-Ok.ensures.tiles c.in-Ok.ensures.covers
-    c.in-Ok.ensures.changes.heap.order c.in-Ok.ensures.changes.threads c.in-Ok.ensures.changes.bytes c.in-Ok.ensures.changes.end c.in-Ok.ensures.changes.fillers) in
-    let three = put_fields (c.args.parent.row.place + 68) c.in-Ok.place table.count c.fields_of_table-fields.result (g.S.ReadBytes.image c.write_table.new.space) (g.S.ReadBytes.image c.write_field.new.space) c.fields_of_table-fields.ensures c.in-Ok-write_field.ensures.written c.in-Ok-write_field.ensures.bytes in
-    joins_held c.args.heap.now.limit c.in-Ok.place c.args.parent c.args.entry.now was now c.requires.full
-    (g.S.ReadBytes.image c.args.space.now) (g.S.ReadBytes.image c.take.new.space) (g.S.ReadBytes.image c.write_table.new.space) (g.S.ReadBytes.image c.write_field.new.space) (g.S.ReadBytes.image c.give_table.new.space) c.give_table.new.heap.work c.requires.ready c.requires.own one c.in-Ok-write_table.ensures.written three
-    (omega (arith, long, c.in-Ok.ensures.within.1, c.in-Ok.ensures.changes.heap.high)) c.in-Ok-give_table.ensures.given
+pub returns-in-Ok-replace_table-clause-joined : goal.returns-in-Ok-replace_table-clause-joined
+returns-in-Ok-replace_table-clause-joined g c =
+    let heap = c.args.heap.now in
+    let long : 20 + 44 * c.from.result ≡ longer_length c.args.parent = omega (arith, c.from.ensures, c.grown.ensures) in
+    joins_held heap.limit c.in-Ok.place c.args.parent c.args.entry.now heap.work c.take_room.new.heap.work c.requires.full (g.S.ReadBytes.image c.args.space.now) (g.S.ReadBytes.image c.take_room.new.space) (g.S.ReadBytes.image c.replace_table.new.space) c.replace_table.new.heap.work c.requires.ready c.requires.own
+    (subst (λ n. Both (Takes heap.limit n c.in-Ok.place heap.work c.take_room.new.heap.work) (g.S.ReadBytes.image c.args.space.now) (g.S.ReadBytes.image c.take_room.new.space)) long c.in-Ok.ensures.takes)
+    (let near = c.in-Ok.ensures.near in omega (arith, near, long)) c.in-Ok-replace_table.ensures.replaced
+
+pub returns-in-Ok-replace_table-clause-writes : goal.returns-in-Ok-replace_table-clause-writes
+returns-in-Ok-replace_table-clause-writes g c = record {
+  sound = c.in-Ok-replace_table.ensures.writes.sound;
+  waits = omega (arith, c.in-Ok.ensures.writes.waits, c.in-Ok-replace_table.ensures.writes.waits);
+  effect = only_then _ _ _ (few_only 64 _ _ c.in-Ok.ensures.writes.effect) c.in-Ok-replace_table.ensures.writes.effect;
+  cause = tt;
+}
+
+pub returns-in-Err-replace_table-clause-writes : goal.returns-in-Err-replace_table-clause-writes
+returns-in-Err-replace_table-clause-writes g c =
+    let heap = c.args.heap.now in
+    let one = few_only 64 _ _ c.in-Ok.ensures.writes.effect in
+    record {
+      sound = c.in-Err-replace_table.ensures.writes.sound;
+      waits = omega (arith, c.in-Ok.ensures.writes.waits, c.in-Err-replace_table.ensures.writes.waits);
+      effect = only_then _ _ _ one c.in-Err-replace_table.ensures.writes.effect;
+      cause = refused_behind (LacksBytes heap.limit (table_length (grown_entries c.args.parent.table.count)) heap.work.heap) (IsUntold (g.S.ReadBytes.image c.take_room.new.space)) (IsUntold (g.S.ReadBytes.image c.args.space.now))
+          (told_both (Takes heap.limit (20 + 44 * c.from.result) c.in-Ok.place heap.work c.take_room.new.heap.work) (g.S.ReadBytes.image c.args.space.now) (g.S.ReadBytes.image c.take_room.new.space) c.in-Ok.ensures.takes)
+          _ (g.S.ReadBytes.state c.take_room.new.space).faults _ c.in-Err-replace_table.error one.faults c.in-Err-replace_table.ensures.writes.cause;
+    }
