@@ -32,3 +32,4 @@ pub mod LinkMade
 pub mod LinkLonger
 pub mod LinkRefused
 pub mod LinkDone
+pub mod Leaves

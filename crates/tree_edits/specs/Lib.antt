@@ -11,3 +11,4 @@ pub mod Joined
 pub mod Created
 pub mod Linked
 pub mod Linkable
+pub mod Left

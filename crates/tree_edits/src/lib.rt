@@ -9,6 +9,7 @@ mod chunk;
 mod creation;
 mod join;
 mod label;
+mod leave;
 mod link_parts;
 mod link_rooms;
 mod linking;
@@ -21,7 +22,9 @@ mod rows;
 
 pub use creation::create;
 pub use label::set_label;
+pub use leave::leave_list;
 pub use linking::link;
+pub use listed::{Listed, find_listed};
 pub use memory::Core;
 pub use name::rename;
 pub use rows::{Row, Rows};

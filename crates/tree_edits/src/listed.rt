@@ -16,9 +16,11 @@ use node_reads::{ChildTable, Wanted, child_table, find_entry, read_header};
 
 /// A table of children, and the entry of a child in it.
 #[derive(Clone, Copy, Drop)]
-pub(crate) struct Listed {
-    pub(crate) table: ChildTable,
-    pub(crate) position: u32,
+pub struct Listed {
+    /// The table.
+    pub table: ChildTable,
+    /// Which of its entries in use is the child's.
+    pub position: u32,
 }
 
 /// The table of children that the header at a place names. By one read.
@@ -50,7 +52,7 @@ fn unlisted(place: u64) -> AdfError
 }
 
 /// The table of a parent, and the entry in it that names the header at a place.
-pub(crate) fn find_listed<S: Space>(
+pub fn find_listed<S: Space>(
     space: &mut S,
     core: &Core,
     place: u64,

@@ -24,7 +24,7 @@ use file_heap::Heap;
 use node_reads::ChildTable;
 
 // How many of the bytes from a place on lie in its block, and are not more than so many.
-fn block_rest(place: u64, most: u64) -> usize
+pub(crate) fn block_rest(place: u64, most: u64) -> usize
     requires { place ≤ 2 ^ 44 }
     ensures { result ≡ min (4096 - place % 4096) most }
 {
