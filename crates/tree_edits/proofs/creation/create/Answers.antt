@@ -10,6 +10,7 @@ use Rattle.tree_edits.specs.Joined.{join_cost}
 use Rattle.tree_edits.specs.Undo.{RowsState}
 use Rattle.tree_edits.specs.Taken.{IsReady, TakesText, LacksBytes, IsRoomless}
 use Rattle.tree_edits.proofs.CreateDone.{ready_held, own_held, done, refused_header, refused_join, header_cause, join_cause, room_is_cause, told_both, table_only, means_ready_held, its_table, made_in, long_enough}
+use Rattle.cg_io.specs.Waits.{how_many}
 use Rattle.tree_edits.proofs.creation.create.Goals as goal
 
 pub returns-in-Err-clause-writes : goal.returns-in-Err-clause-writes
@@ -18,7 +19,7 @@ returns-in-Err-clause-writes g c = (
   inl refl,
   record {
     sound = c.in-Err.ensures.reads.sound;
-    waits = omega (arith, c.in-Err.ensures.reads.waits);
+    waits = omega (arith, ap how_many c.in-Err.ensures.reads.waits);
     effect = table_only _ 1 2 _ _ c.in-Err.ensures.reads.effect;
     cause = room_is_cause c.args.core.now c.args.at c.args.name.now c.args.label.now (g.S.ReadBytes.image c.args.space.now) _ _ c.in-Err.error c.in-Err.ensures.reads.cause;
   },
@@ -41,7 +42,7 @@ returns-in-Err-make_header-clause-writes g c =
       inr (c.in-Ok.parent.table, its_table c.args.core.now c.args.at c.args.name.now c.args.label.now (g.S.ReadBytes.image c.args.space.now) c.in-Ok.parent c.in-Ok.ensures.room, refl),
       record {
         sound = c.in-Err-make_header.ensures.writes.sound;
-        waits = omega (arith, c.in-Ok.ensures.reads.waits, c.in-Err-make_header.ensures.writes.waits);
+        waits = omega (arith, ap how_many c.in-Ok.ensures.reads.waits, c.in-Err-make_header.ensures.writes.waits);
         effect = only_then _ _ _ effect (few_only 66 _ _ c.in-Err-make_header.ensures.writes.effect);
         cause = header_cause c.args.core.now c.args.at c.args.name.now c.args.label.now c.in-Ok.parent (g.S.ReadBytes.image c.args.space.now) c.in-Ok.ensures.room _ (g.S.ReadBytes.state c.find_room.new.space).faults _ c.in-Err-make_header.error effect.faults
             (subst (λ held. IsRoomless (LacksBytes c.args.core.now.heap.limit (node_length c.args.core.now.wide) c.args.core.now.heap.work.heap) (IsUntold held) (g.S.ReadBytes.state c.find_room.new.space).faults (g.S.ReadBytes.state c.make_header.new.space).faults c.in-Err-make_header.error)
@@ -75,7 +76,7 @@ returns-in-Err-join_child-clause-writes g c =
       inr (c.in-Ok.parent.table, its_table c.args.core.now c.args.at c.args.name.now c.args.label.now (g.S.ReadBytes.image c.args.space.now) c.in-Ok.parent c.in-Ok.ensures.room, refl),
       record {
         sound = c.in-Err-join_child.ensures.writes.sound;
-        waits = omega (arith, c.in-Ok.ensures.reads.waits, c.in-Ok-make_header.ensures.writes.waits, c.in-Err-join_child.ensures.writes.waits);
+        waits = omega (arith, ap how_many c.in-Ok.ensures.reads.waits, c.in-Ok-make_header.ensures.writes.waits, c.in-Err-join_child.ensures.writes.waits);
         effect = only_then _ _ _ effect c.in-Err-join_child.ensures.writes.effect;
         cause = join_cause c.args.core.now c.args.at c.args.name.now c.args.label.now c.in-Ok.parent c.in-Ok-make_header.place c.make_header.new.heap.limit c.make_header.new.heap.work.heap c.in-Ok-make_header.ensures.taken c.in-Ok-make_header.ensures.kept.limit
             (g.S.ReadBytes.image c.args.space.now) (g.S.ReadBytes.image c.make_header.new.space) c.in-Ok.ensures.room (told_both (TakesText c.args.core.now.heap.limit (node_length c.args.core.now.wide) c.in-Ok-make_header.place (node_text (empty_node c.args.core.now.wide c.args.name.now c.args.label.now)) c.args.core.now.heap.work c.make_header.new.heap.work) (g.S.ReadBytes.image c.args.space.now) (g.S.ReadBytes.image c.make_header.new.space) (made_in (TakesText c.args.core.now.heap.limit (node_length c.args.core.now.wide) c.in-Ok-make_header.place (node_text (empty_node c.args.core.now.wide c.args.name.now c.args.label.now)) c.args.core.now.heap.work c.make_header.new.heap.work) (g.S.ReadBytes.image c.args.space.now) (g.S.ReadBytes.image c.find_room.new.space) (g.S.ReadBytes.image c.make_header.new.space) c.in-Ok.ensures.reads.bytes c.in-Ok-make_header.ensures.made)) _ (g.S.ReadBytes.state c.make_header.new.space).faults _ c.in-Err-join_child.error
@@ -97,7 +98,7 @@ returns-in-Ok-add-clause-writes g c = (
   inr (c.in-Ok.parent.table, its_table c.args.core.now c.args.at c.args.name.now c.args.label.now (g.S.ReadBytes.image c.args.space.now) c.in-Ok.parent c.in-Ok.ensures.room, refl),
   record {
     sound = c.in-Ok-join_child.ensures.writes.sound;
-    waits = omega (arith, c.in-Ok.ensures.reads.waits, c.in-Ok-make_header.ensures.writes.waits, c.in-Ok-join_child.ensures.writes.waits);
+    waits = omega (arith, ap how_many c.in-Ok.ensures.reads.waits, c.in-Ok-make_header.ensures.writes.waits, c.in-Ok-join_child.ensures.writes.waits);
     effect = only_then _ _ _ (only_then _ _ _ (table_only _ 1 2 _ _ c.in-Ok.ensures.reads.effect) (few_only 66 _ _ c.in-Ok-make_header.ensures.writes.effect)) c.in-Ok-join_child.ensures.writes.effect;
     cause = tt;
   },
@@ -109,7 +110,7 @@ returns-in-Err-add-clause-writes g c = (
   inr (c.in-Ok.parent.table, its_table c.args.core.now c.args.at c.args.name.now c.args.label.now (g.S.ReadBytes.image c.args.space.now) c.in-Ok.parent c.in-Ok.ensures.room, refl),
   record {
     sound = c.in-Ok-join_child.ensures.writes.sound;
-    waits = omega (arith, c.in-Ok.ensures.reads.waits, c.in-Ok-make_header.ensures.writes.waits, c.in-Ok-join_child.ensures.writes.waits);
+    waits = omega (arith, ap how_many c.in-Ok.ensures.reads.waits, c.in-Ok-make_header.ensures.writes.waits, c.in-Ok-join_child.ensures.writes.waits);
     effect = only_then _ _ _ (only_then _ _ _ (table_only _ 1 2 _ _ c.in-Ok.ensures.reads.effect) (few_only 66 _ _ c.in-Ok-make_header.ensures.writes.effect)) c.in-Ok-join_child.ensures.writes.effect;
     cause = (c.in-Ok.parent, c.in-Ok.ensures.room);
   },

@@ -1,9 +1,10 @@
-use Rattle.std.proofs.Common.{◌+◌, ◌∙◌, sym, arith, length, true, false}
+use Rattle.std.proofs.Common.{◌+◌, ◌∙◌, sym, arith, length, true, false, ap}
 use Rattle.cg_io.proofs.ReadLaws.{reads_then, reads_more}
 use Rattle.tree_edits.proofs.Labels.{refused_none, refused_unread, refused_link, refused_read_only, refused_label, refused_write, done}
 use Rattle.tree_edits.proofs.Causes.{header_blocks, field_blocks, at_row, row_there, link_said, unread_cause, write_cause, where_ok, label_long}
 use Rattle.tree_edits.specs.Causes.{SaysLink}
 use Rattle.tree_edits.specs.declared.rows.Row.{Row}
+use Rattle.cg_io.specs.Waits.{how_many}
 use Rattle.tree_edits.proofs.label.set_label.Goals as goal
 
 pub returns-in-None-clause-refused : goal.returns-in-None-clause-refused
@@ -15,7 +16,7 @@ returns-in-Err-clause-refused g c = refused_unread c.args.core.now c.args.node c
 pub returns-in-Err-clause-writes : goal.returns-in-Err-clause-writes
 returns-in-Err-clause-writes g c = record {
   sound = c.in-Err.ensures.reads.sound;
-  waits = omega (arith, c.in-Err.ensures.reads.waits);
+  waits = omega (arith, ap how_many c.in-Err.ensures.reads.waits);
   effect = reads_more _ 4 _ _ c.in-Err.ensures.reads.effect (omega (arith, header_blocks c.args.core.now.wide c.in-Some.row.place));
   cause = unread_cause c.args.core.now c.args.node c.args.label.now (g.S.ReadBytes.image c.args.space.now) c.in-Some.row (sym c.get.ensures ∙ c.in-Some.is) _ _ c.in-Err.error c.in-Err.ensures.reads.cause;
 }
@@ -27,7 +28,7 @@ returns-then-is_link-clause-refused g c =
 pub returns-then-is_link-clause-writes : goal.returns-then-is_link-clause-writes
 returns-then-is_link-clause-writes g c = record {
   sound = c.in-Ok.ensures.reads.sound;
-  waits = omega (arith, c.in-Ok.ensures.reads.waits);
+  waits = omega (arith, ap how_many c.in-Ok.ensures.reads.waits);
   effect = reads_more _ 4 _ _ c.in-Ok.ensures.reads.effect (omega (arith, header_blocks c.args.core.now.wide c.in-Some.row.place));
   cause = at_row _ c.in-Some.row (λ (row : Row). SaysLink true c.args.core.now.wide (g.S.ReadBytes.image c.args.space.now) row.place) (sym c.get.ensures ∙ c.in-Some.is)
       (link_said c.args.core.now.wide (g.S.ReadBytes.image c.args.space.now) c.in-Some.row.place c.in-Ok.header true c.in-Ok.ensures.header (sym c.is_link.ensures ∙ c.if-is_link.true));
@@ -40,7 +41,7 @@ returns-then-not-core-clause-refused g c =
 pub returns-then-not-core-clause-writes : goal.returns-then-not-core-clause-writes
 returns-then-not-core-clause-writes g c = record {
   sound = c.in-Ok.ensures.reads.sound;
-  waits = omega (arith, c.in-Ok.ensures.reads.waits);
+  waits = omega (arith, ap how_many c.in-Ok.ensures.reads.waits);
   effect = reads_more _ 4 _ _ c.in-Ok.ensures.reads.effect (omega (arith, header_blocks c.args.core.now.wide c.in-Some.row.place));
   cause = (
     at_row _ c.in-Some.row (λ (row : Row). SaysLink false c.args.core.now.wide (g.S.ReadBytes.image c.args.space.now) row.place) (sym c.get.ensures ∙ c.in-Some.is)
@@ -57,7 +58,7 @@ returns-then-not-is_label-clause-refused g c =
 pub returns-then-not-is_label-clause-writes : goal.returns-then-not-is_label-clause-writes
 returns-then-not-is_label-clause-writes g c = record {
   sound = c.in-Ok.ensures.reads.sound;
-  waits = omega (arith, c.in-Ok.ensures.reads.waits);
+  waits = omega (arith, ap how_many c.in-Ok.ensures.reads.waits);
   effect = reads_more _ 4 _ _ c.in-Ok.ensures.reads.effect (omega (arith, header_blocks c.args.core.now.wide c.in-Some.row.place));
   cause = (
     at_row _ c.in-Some.row (λ (row : Row). SaysLink false c.args.core.now.wide (g.S.ReadBytes.image c.args.space.now) row.place) (sym c.get.ensures ∙ c.in-Some.is)
@@ -92,7 +93,7 @@ returns-clause-writes g c =
     let long = label_long c.args.label.now c.name_field.result c.name_field.ensures (sym c.is_label.ensures ∙ c.if-not-is_label.false) in
     record {
       sound = c.write_field.ensures.writes.sound;
-      waits = omega (arith, c.in-Ok.ensures.reads.waits, c.write_field.ensures.writes.waits, field_blocks (c.in-Some.row.place + 36) (length c.name_field.result) long);
+      waits = omega (arith, ap how_many c.in-Ok.ensures.reads.waits, c.write_field.ensures.writes.waits, field_blocks (c.in-Some.row.place + 36) (length c.name_field.result) long);
       effect = reads_then _ _ 4 _ _ _ c.in-Ok.ensures.reads.effect c.write_field.ensures.writes.effect
           (omega (arith, header_blocks c.args.core.now.wide c.in-Some.row.place, field_blocks (c.in-Some.row.place + 36) (length c.name_field.result) long));
       cause = write_cause c.args.core.now c.args.node c.args.label.now (g.S.ReadBytes.image c.args.space.now) c.in-Some.row (sym c.get.ensures ∙ c.in-Some.is) c.write_field.result _ _ _

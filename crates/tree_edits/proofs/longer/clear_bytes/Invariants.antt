@@ -3,13 +3,14 @@ use Rattle.cg_io.specs.Answers.{OnlyReads}
 use Rattle.cg_io.specs.Blocks.{Both, blocks_of}
 use Rattle.tree_edits.specs.Copies.{Clears}
 use Rattle.tree_edits.proofs.longer.clear_bytes.Given as goal
+use Rattle.cg_io.specs.Waits.{how_many}
 
 -- what was done so far stands, and ends at a block of the place
 abbrev pub invariant-loop-done : goal.invariant-loop-done
 invariant-loop-done g l =
     (l.done ≤ l.count) × g.S.ReadBytes.is_sound l.space
     × Both (Clears l.at l.done) (g.S.ReadBytes.image l.initial.space) (g.S.ReadBytes.image l.space)
-    × (g.S.ReadBytes.waiting l.space ≤ g.S.ReadBytes.waiting l.initial.space + blocks_of l.at l.done)
+    × (how_many (g.S.ReadBytes.waiting l.space) ≤ how_many (g.S.ReadBytes.waiting l.initial.space) + blocks_of l.at l.done)
     × OnlyReads (g.S.ReadBytes.state l.initial.space) (g.S.ReadBytes.state l.space)
     × ((l.done ≡ 0) ⊎ ((l.done ≡ l.count) ⊎ ((l.at + l.done) % 4096 ≡ 0)))
 

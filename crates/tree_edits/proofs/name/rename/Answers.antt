@@ -1,8 +1,9 @@
-use Rattle.std.proofs.Common.{◌∙◌, sym, arith, true, false}
+use Rattle.std.proofs.Common.{◌∙◌, sym, arith, true, false, ap}
 use Rattle.cg_io.proofs.ReadLaws.{reads_then, reads_more}
 use Rattle.tree_edits.proofs.Causes.{where_ok}
 use Rattle.tree_edits.proofs.Renames.{refused_none, refused_read_only, refused_root, refused_name, refused_unlisted, refused_fault, refused_taken, refused_write, done}
 use Rattle.tree_edits.proofs.NameCauses.{unlisted_cause, looked, write_cause, once_read, twice_read, first_held}
+use Rattle.cg_io.specs.Waits.{how_many}
 use Rattle.tree_edits.proofs.name.rename.Goals as goal
 
 pub returns-in-None-clause-refused : goal.returns-in-None-clause-refused
@@ -31,7 +32,7 @@ returns-in-Err-clause-writes g c =
     let good = sym c.is_name.ensures ∙ c.if-not-is_name.false in
     record {
       sound = c.in-Err.ensures.reads.sound;
-      waits = omega (arith, c.in-Err.ensures.reads.waits);
+      waits = omega (arith, ap how_many c.in-Err.ensures.reads.waits);
       effect = once_read c.args.core.now c.args.node c.args.name.now held c.in-Some.row (sym c.get.ensures ∙ c.in-Some.is) c.in-Some-parent.parent c.in-Some-parent.is c.if-not-core.false good _ _ c.in-Err.ensures.reads.effect;
       cause = unlisted_cause c.args.core.now c.args.node c.args.name.now held c.in-Some.row (sym c.get.ensures ∙ c.in-Some.is) c.in-Some-parent.parent c.in-Some-parent.is c.if-not-core.false good _ _ c.in-Err.error c.in-Err.ensures.reads.cause;
     }
@@ -53,7 +54,7 @@ returns-then-is_another-clause-writes g c =
     let good = sym c.is_name.ensures ∙ c.if-not-is_name.false in
     record {
       sound = c.in-Ok-find_entry.ensures.reads.sound;
-      waits = omega (arith, c.in-Ok.ensures.reads.waits, c.in-Ok-find_entry.ensures.reads.waits);
+      waits = omega (arith, ap how_many c.in-Ok.ensures.reads.waits, ap how_many c.in-Ok-find_entry.ensures.reads.waits);
       effect = twice_read c.args.core.now c.args.node c.args.name.now held c.in-Some.row (sym c.get.ensures ∙ c.in-Some.is) c.in-Some-parent.parent c.in-Some-parent.is c.if-not-core.false good c.in-Ok.listed.table c.in-Ok.ensures.listed.table 0 (omega arith) _ _ _
           c.in-Ok.ensures.soon (reads_more _ _ _ _ c.in-Ok-find_entry.ensures.reads.effect (omega arith));
       cause = looked c.args.core.now c.args.node c.args.name.now held c.in-Some.row (sym c.get.ensures ∙ c.in-Some.is) c.in-Some-parent.parent c.in-Some-parent.is c.if-not-core.false good c.in-Ok.listed c.in-Ok.ensures.listed c.in-Ok-find_entry.found
@@ -89,7 +90,7 @@ returns-clause-writes g c =
     let found = sym c.get.ensures ∙ c.in-Some.is in
     record {
       sound = c.write_name.ensures.writes.sound;
-      waits = omega (arith, c.in-Ok.ensures.reads.waits, c.in-Ok-find_entry.ensures.reads.waits, c.write_name.ensures.writes.waits);
+      waits = omega (arith, ap how_many c.in-Ok.ensures.reads.waits, ap how_many c.in-Ok-find_entry.ensures.reads.waits, c.write_name.ensures.writes.waits);
       effect = twice_read c.args.core.now c.args.node c.args.name.now held c.in-Some.row found c.in-Some-parent.parent c.in-Some-parent.is c.if-not-core.false good c.in-Ok.listed.table c.in-Ok.ensures.listed.table 4 (omega arith) _ _ _
           c.in-Ok.ensures.soon (reads_then _ 4 _ _ _ _ c.in-Ok-find_entry.ensures.reads.effect c.write_name.ensures.writes.effect (omega arith));
       cause = write_cause c.args.core.now c.args.node c.args.name.now held c.in-Some.row found c.in-Some-parent.parent c.in-Some-parent.is c.if-not-core.false good c.in-Ok.listed c.in-Ok.ensures.listed c.in-Ok-find_entry.found
