@@ -15,6 +15,7 @@ use Rattle.tree_edits.specs.Undo.{RowsState}
 use Rattle.tree_edits.proofs.CreateDone.{table_only, means_ready_held, its_table, made_in}
 use Rattle.tree_edits.proofs.JoinedRows.{near_joined}
 use Rattle.tree_edits.proofs.LinkDone.{done, refused_put, put_cause, memory_is_cause, room_is_cause, owns_held}
+use Rattle.cg_io.specs.Waits.{how_many}
 use Rattle.tree_edits.proofs.linking.link.Goals as goal
 
 pub returns-in-Err-clause-writes : goal.returns-in-Err-clause-writes
@@ -23,7 +24,7 @@ returns-in-Err-clause-writes g c = (
   inl refl,
   record {
     sound = c.in-Err.ensures.reads.sound;
-    waits = omega (arith, c.in-Err.ensures.reads.waits);
+    waits = omega (arith, ap how_many c.in-Err.ensures.reads.waits);
     effect = table_only _ 1 2 _ _ c.in-Err.ensures.reads.effect;
     cause = room_is_cause c.args.core.now c.args.at c.args.name.now c.args.file.now c.args.path.now (g.S.ReadBytes.image c.args.space.now) _ _ c.in-Err.error c.in-Err.ensures.reads.cause;
   },
@@ -58,7 +59,7 @@ returns-in-Err-put_link-clause-writes g c =
       inr (parent.table, its_table core c.args.at c.args.name.now [] (g.S.ReadBytes.image c.args.space.now) parent c.in-Ok.ensures.room.room, refl),
       record {
         sound = c.in-Err-put_link.ensures.writes.sound;
-        waits = omega (arith, c.in-Ok.ensures.reads.waits, c.in-Err-put_link.ensures.writes.waits);
+        waits = omega (arith, ap how_many c.in-Ok.ensures.reads.waits, c.in-Err-put_link.ensures.writes.waits);
         effect = only_then _ _ _ effect c.in-Err-put_link.ensures.writes.effect;
         cause = put_cause core c.args.at c.args.name.now c.args.file.now c.args.path.now parent (g.S.ReadBytes.image c.args.space.now) c.in-Ok.ensures.room
             (memory_is_cause core c.args.at c.args.name.now c.args.file.now c.args.path.now parent (g.S.ReadBytes.image c.args.space.now) c.in-Ok.ensures.room) _ (g.S.ReadBytes.state c.find_link_room.new.space).faults _ c.in-Err-put_link.error effect.faults
@@ -93,7 +94,7 @@ returns-in-Ok-add-clause-writes g c =
       inr (parent.table, its_table c.args.core.now c.args.at c.args.name.now [] (g.S.ReadBytes.image c.args.space.now) parent c.in-Ok.ensures.room.room, refl),
       record {
         sound = c.in-Ok-put_link.ensures.writes.sound;
-        waits = omega (arith, c.in-Ok.ensures.reads.waits, c.in-Ok-put_link.ensures.writes.waits);
+        waits = omega (arith, ap how_many c.in-Ok.ensures.reads.waits, c.in-Ok-put_link.ensures.writes.waits);
         effect = only_then _ _ _ (table_only _ 1 2 _ _ c.in-Ok.ensures.reads.effect) c.in-Ok-put_link.ensures.writes.effect;
         cause = tt;
       },
@@ -106,7 +107,7 @@ returns-clause-writes g c =
       inr (parent.table, its_table c.args.core.now c.args.at c.args.name.now [] (g.S.ReadBytes.image c.args.space.now) parent c.in-Ok.ensures.room.room, refl),
       record {
         sound = c.in-Ok-put_link.ensures.writes.sound;
-        waits = omega (arith, c.in-Ok.ensures.reads.waits, c.in-Ok-put_link.ensures.writes.waits);
+        waits = omega (arith, ap how_many c.in-Ok.ensures.reads.waits, c.in-Ok-put_link.ensures.writes.waits);
         effect = only_then _ _ _ (table_only _ 1 2 _ _ c.in-Ok.ensures.reads.effect) c.in-Ok-put_link.ensures.writes.effect;
         cause = memory_is_cause c.args.core.now c.args.at c.args.name.now c.args.file.now c.args.path.now parent (g.S.ReadBytes.image c.args.space.now) c.in-Ok.ensures.room;
       },
