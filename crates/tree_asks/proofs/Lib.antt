@@ -6,3 +6,6 @@ pub mod NodeData
 pub mod DataReads
 pub mod LinkTexts
 pub mod Named
+pub mod Pieces
+pub mod Asked
+pub mod AskedRules

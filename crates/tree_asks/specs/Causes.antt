@@ -1,6 +1,6 @@
 -- Why a question is refused, also where the bytes are not told: each refusal names what is so of the question, of the table of
 -- nodes and of the bytes that were read.
-use Rattle.std.specs.Prelude.{◌≡◌, ◌≢◌, ◌⊎◌, ℕ, ◌+◌, ◌*◌, ◌^◌, ◌<◌, Bool, true, false, List, get_or, Option, Some, None, ⊤}
+use Rattle.std.specs.Prelude.{◌≡◌, ◌≢◌, ◌⊎◌, ℕ, ◌+◌, ◌^◌, ◌<◌, Bool, true, false, List, get_or, Option, Some, None, ⊤}
 use Rattle.adf_format.specs.Names.{is_lk, data_size}
 use Rattle.adf_format.specs.Links.{is_link_text}
 use Rattle.adf_format.specs.RuleNumbers.{IsRule}
@@ -17,16 +17,14 @@ use Rattle.cg_io.specs.Answers.{OnlyReads}
 use Rattle.cg_io.specs.Blocks.{ReadsFew}
 use Rattle.cg_io.specs.Cause.{Rose}
 use Rattle.cg_io.specs.Device.{DeviceState}
-use Rattle.node_reads.specs.declared.header.ChildTable.{ChildTable}
-use Rattle.node_reads.specs.Entries.{child_said}
 use Rattle.node_reads.specs.Reads.{ReadAt}
 use Rattle.tree_edits.specs.declared.memory.Core.{Core}
 use Rattle.tree_edits.specs.declared.rows.Row.{Row}
 use Rattle.tree_edits.specs.Causes.{HeaderBreaks}
-use Rattle.tree_edits.specs.Listed.{NamesTable, TableBreaks, IsTableOf, ReadsTable}
+use Rattle.tree_edits.specs.Listed.{TableBreaks, IsTableOf, ReadsTable}
 use Rattle.tree_edits.specs.Rows.{row_of}
 use Rattle.tree_asks.specs.Headers.{HeaderSays, dims_of, data_shape_of}
-use Rattle.tree_asks.specs.Hints.{is_placed}
+use Rattle.tree_asks.specs.Entries.{ChildFails}
 
 -- ---- one header
 
@@ -50,27 +48,17 @@ IsFormatCause held before now other = ⊥
 
 -- ---- children
 
--- an entry of a table that names no child (rule 24), or a header that is a part of no node (rule 30)
-pub record EntryFails (core : Core) (held : Option (List ℕ)) (place rule at : ℕ) : Type 0 where
-  pub table : ChildTable
-  pub named : NamesTable core.wide held place table
-  pub position : ℕ
-  pub within : position < table.count
-  pub fails : ((rule ≡ 24) × (at ≡ table.place + 16 + 44 * position)
-      × ReadAt held (table.place + 16 + 44 * position) 44 (λ entry. child_said entry ≡ None))
-      ⊎ ((rule ≡ 30) × ((serial : ℕ) → is_placed core.rows.items at serial ≡ false))
-
--- of the children of the node at a place
+-- of the children of the node at a place, which take memory where there are some
 abbrev pub IsChildrenCause : Core → Option (List ℕ) → ℕ → ℕ → ℕ → AdfError → Type 0
-IsChildrenCause core held place before now error.Memory = ⊤
+IsChildrenCause core held place before now error.Memory = ChildFails core held place error.Memory
 IsChildrenCause core held place before now error.ReadFault = Rose before now
-IsChildrenCause core held place before now (error.Layout rule at) = TableBreaks core.wide held place rule at ⊎ EntryFails core held place rule at
+IsChildrenCause core held place before now (error.Layout rule at) = TableBreaks core.wide held place rule at ⊎ ChildFails core held place (error.Layout rule at)
 IsChildrenCause core held place before now other = ⊥
 
 -- of the child of a name, which takes no memory
 abbrev pub IsChildCause : Core → Option (List ℕ) → ℕ → ℕ → ℕ → AdfError → Type 0
 IsChildCause core held place before now error.ReadFault = Rose before now
-IsChildCause core held place before now (error.Layout rule at) = TableBreaks core.wide held place rule at ⊎ EntryFails core held place rule at
+IsChildCause core held place before now (error.Layout rule at) = TableBreaks core.wide held place rule at ⊎ ChildFails core held place (error.Layout rule at)
 IsChildCause core held place before now other = ⊥
 
 -- ---- data

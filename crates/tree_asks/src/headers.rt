@@ -39,7 +39,8 @@ pub(crate) fn header_of<R: ReadBytes>(
         (node_length core.now.wide) (IsHeader core.now.wide row.place None h)) }
     ensures offsets { IfOk result HasOffsets }
     ensures small { IfOk result (λ h. h.rank ≤ 12) }
-    ensures free { IfErr result (λ e. OfEach core.now (R.image bytes.old) (λ image tree p. IsFree e)) }
+    ensures free { IfErr result (λ e. OfEach core.now (R.image bytes.old)
+        (λ image tree p. IsFree e)) }
     ensures reads { AnswersRead R.is_sound R.image R.state R.waiting (ReadsFew 2)
         (IsUnread (HeaderBreaks core.now.wide (R.image bytes.old) row.place)) bytes.old bytes.new
         result }

@@ -5,14 +5,18 @@
 
 #![tactic(auto)]
 
+mod answers;
 mod children;
 mod data;
 mod fields;
 mod format;
 mod headers;
 mod hints;
+mod laws;
 mod links;
 
+pub use answers::answer_at;
 pub use children::child_at;
 pub use hints::Hints;
+pub use laws::causes_are_of_queries;
 pub use links::text_at;
