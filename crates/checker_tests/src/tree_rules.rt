@@ -2,16 +2,19 @@
 
 use crate::plain_trees::{PlainTrees, Row, Target};
 use adf_model::{AdfError, DataType, Format, NodeId};
-use sids_broken::{
-    WordList, base_dimensions, breaks_array_data, breaks_bc_family, breaks_bc_points,
-    breaks_connectivity_size, breaks_coordinate_size, breaks_coordinate_type, breaks_field_size,
-    breaks_field_type, breaks_not_empty, breaks_offset_size, breaks_place, breaks_rind_data,
-    breaks_rind_name, breaks_sections_overlap, breaks_small_node, breaks_start_offset,
-    breaks_version, breaks_version_data, breaks_zone_types, connectivity_of, is_no_word,
-    offsets_of, rind_there, section_head, section_range, vertex_limit, wants_offsets, zone_kind,
-    zone_sizes,
+use sids_node_rules::{
+    breaks_array_data, breaks_bc_family, breaks_bc_points, breaks_coordinate_size,
+    breaks_coordinate_type, breaks_field_size, breaks_field_type, breaks_not_empty, breaks_place,
+    breaks_rind_data, breaks_rind_name, breaks_small_node, breaks_version, breaks_version_data,
+    breaks_zone_types,
+};
+use sids_offset_rules::{breaks_offset_size, breaks_start_offset, offsets_of, wants_offsets};
+use sids_readings::{
+    WordList, base_dimensions, connectivity_of, is_no_word, rind_there, section_head,
+    section_range, vertex_limit, zone_kind, zone_sizes,
 };
 use sids_rules::RuleKind;
+use sids_section_rules::{breaks_connectivity_size, breaks_sections_overlap};
 use sids_tables::LabelKind;
 use std::alloc::Global;
 

@@ -11,13 +11,13 @@ use Rattle.sids_rules.specs.declared.seen.Seen.{Seen}
 use Rattle.sids_rules.specs.Rules.{check_rules, broken_numbers, place_kind, is_allowed}
 use Rattle.sids_rules.specs.OffsetRules.{offset_rules}
 use Rattle.sids_rules.proofs.ByKind.{of_lost, of_root}
-use Rattle.sids_broken.specs.declared.around.Surroundings.{Surroundings}
-use Rattle.sids_broken.specs.declared.rule_sets.RuleSet.{RuleSet}
-use Rattle.sids_broken.specs.declared.rule_sets.RuleSet.TheVariants as set
-use Rattle.sids_broken.specs.declared.section_rules.Spot.{Spot}
-use Rattle.sids_broken.specs.RuleSets.{rules_of}
-use Rattle.sids_broken.specs.Held.{held}
-use Rattle.sids_broken.specs.Around.{surroundings}
+use Rattle.sids_readings.specs.declared.around.Surroundings.{Surroundings}
+use Rattle.sids_readings.specs.declared.rule_sets.RuleSet.{RuleSet}
+use Rattle.sids_readings.specs.declared.rule_sets.RuleSet.TheVariants as set
+use Rattle.sids_section_rules.specs.declared.section_rules.Spot.{Spot}
+use Rattle.sids_readings.specs.RuleSets.{rules_of}
+use Rattle.sids_readings.specs.Held.{held}
+use Rattle.sids_readings.specs.Around.{surroundings}
 use Rattle.sids_broken.specs.NodeTests.{tests_at, tests_with_place}
 use Rattle.sids_broken.proofs.OffsetTestLaws.{numbers_append, broken_are}
 

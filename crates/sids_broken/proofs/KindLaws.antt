@@ -13,18 +13,18 @@ use Rattle.sids_rules.specs.Values.{are_dims, is_array_of}
 use Rattle.sids_rules.specs.Terms.{Sizes, zone_sizes, sizes_of_zone, vertex_limit, coordinate_dims, field_dims}
 use Rattle.sids_rules.specs.Rules.{check_rules, broken_numbers, place_kind, is_allowed, has_type, is_no_word, is_no_text, is_filled, Section, section_there}
 use Rattle.sids_rules.proofs.ByKind.{seen, held_are, of_outside, of_version, of_base, of_zone, of_zone_type, of_grid, of_section, of_solution, of_conditions, of_condition, of_array, of_family, of_family_name, of_simulation_type, of_data_class, of_units, of_exponents, of_descriptor, of_user_data, of_rind, of_index_range, of_index_array, of_location}
-use Rattle.sids_broken.specs.Held.{held}
-use Rattle.sids_broken.specs.Around.{zone_numbers, surroundings, sizes_around, limit_with, limit_around}
-use Rattle.sids_broken.specs.Entries.{has_no_vertex}
-use Rattle.sids_broken.specs.NodeRules.{is_no_coordinate, is_no_field}
-use Rattle.sids_broken.specs.KindTests.{tests_in}
-use Rattle.sids_broken.specs.SectionTests.{has_bad_vertex}
-use Rattle.sids_broken.specs.declared.around.Surroundings.{Surroundings}
-use Rattle.sids_broken.specs.declared.rule_sets.RuleSet.TheVariants as set
-use Rattle.sids_broken.specs.declared.section_rules.Spot.{Spot}
+use Rattle.sids_readings.specs.Held.{held}
+use Rattle.sids_readings.specs.Around.{zone_numbers, surroundings, sizes_around, limit_with, limit_around}
+use Rattle.sids_section_rules.specs.Entries.{has_no_vertex}
+use Rattle.sids_node_rules.specs.NodeRules.{is_no_coordinate, is_no_field}
+use Rattle.sids_node_rules.specs.KindTests.{tests_in}
+use Rattle.sids_section_rules.specs.SectionTests.{has_bad_vertex}
+use Rattle.sids_readings.specs.declared.around.Surroundings.{Surroundings}
+use Rattle.sids_readings.specs.declared.rule_sets.RuleSet.TheVariants as set
+use Rattle.sids_section_rules.specs.declared.section_rules.Spot.{Spot}
 use Rattle.sids_broken.specs.NodeTests.{tests_with_place}
-use Rattle.sids_broken.proofs.TextLaws.{or_false}
-use Rattle.sids_broken.proofs.HeldLaws.{two_before}
+use Rattle.sids_readings.proofs.TextLaws.{or_false}
+use Rattle.sids_readings.proofs.HeldLaws.{two_before}
 
 -- a test beside others that are not on this kind
 behind_two : (b : Bool) → (b || false || false) ≡ b

@@ -17,21 +17,21 @@ use Rattle.sids_rules.specs.Terms.{zone_sizes, vertex_limit}
 use Rattle.sids_rules.specs.Rules.{Rule, check_rules, broken_of, broken_numbers, Section, section_there}
 use Rattle.sids_rules.specs.OffsetRules.{offset_rules, check4_rules, offset_child, offset_section_of, OffsetSection, has_pieces, has_bad_pieces, has_bad_piece, has_bad_node, has_bad_piece_node, has_bad_offsets, is_no_face, face_ranges}
 use Rattle.sids_rules.proofs.ByKind.{seen, held_are}
-use Rattle.sids_broken.specs.declared.around.Surroundings.{Surroundings}
-use Rattle.sids_broken.specs.declared.rule_sets.RuleSet.{RuleSet}
-use Rattle.sids_broken.specs.declared.rule_sets.RuleSet.TheVariants as set
-use Rattle.sids_broken.specs.declared.section_rules.Spot.{Spot}
-use Rattle.sids_broken.specs.declared.pieces.PieceFault.{PieceFault}
-use Rattle.sids_broken.specs.declared.pieces.PieceFault.TheVariants as fault
-use Rattle.sids_broken.specs.RuleSets.{rules_of}
-use Rattle.sids_broken.specs.Held.{held}
-use Rattle.sids_broken.specs.Around.{zone_numbers, surroundings, limit_around}
-use Rattle.sids_broken.specs.Pieces.{piece_fault}
-use Rattle.sids_broken.specs.SectionTests.{section_parts}
-use Rattle.sids_broken.specs.OffsetTests.{lacks_list, is_list_off, listed, is_bad_piece, is_bad_node, lacks_face, piece_tests, offset_tests}
+use Rattle.sids_readings.specs.declared.around.Surroundings.{Surroundings}
+use Rattle.sids_readings.specs.declared.rule_sets.RuleSet.{RuleSet}
+use Rattle.sids_readings.specs.declared.rule_sets.RuleSet.TheVariants as set
+use Rattle.sids_section_rules.specs.declared.section_rules.Spot.{Spot}
+use Rattle.sids_offset_rules.specs.declared.pieces.PieceFault.{PieceFault}
+use Rattle.sids_offset_rules.specs.declared.pieces.PieceFault.TheVariants as fault
+use Rattle.sids_readings.specs.RuleSets.{rules_of}
+use Rattle.sids_readings.specs.Held.{held}
+use Rattle.sids_readings.specs.Around.{zone_numbers, surroundings, limit_around}
+use Rattle.sids_offset_rules.specs.Pieces.{piece_fault}
+use Rattle.sids_section_rules.specs.SectionTests.{section_parts}
+use Rattle.sids_offset_rules.specs.OffsetTests.{lacks_list, is_list_off, listed, is_bad_piece, is_bad_node, lacks_face, piece_tests, offset_tests}
 use Rattle.sids_broken.specs.NodeTests.{tests_with_place}
-use Rattle.sids_broken.proofs.TextLaws.{or_false}
-use Rattle.sids_broken.proofs.HeldLaws.{held_append, two_before}
+use Rattle.sids_readings.proofs.TextLaws.{or_false}
+use Rattle.sids_readings.proofs.HeldLaws.{held_append, two_before}
 use Rattle.sids_broken.proofs.KindLaws.{same_given, within_limit, law}
 
 -- ---- what is wrong with pieces

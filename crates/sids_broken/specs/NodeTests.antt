@@ -6,14 +6,14 @@ use Rattle.sids_tables.specs.declared.labels.LabelKind.TheVariants.{CgnsBase, Zo
 use Rattle.sids_views.specs.Asks.{IsPlain, IsThere}
 use Rattle.sids_rules.specs.Terms.{base_dimensions}
 use Rattle.sids_rules.specs.Rules.{place_kind, is_allowed}
-use Rattle.sids_broken.specs.declared.around.Surroundings.{Surroundings}
-use Rattle.sids_broken.specs.declared.section_rules.Spot.{Spot}
-use Rattle.sids_broken.specs.declared.section_parts.SectionParts.{SectionParts}
-use Rattle.sids_broken.specs.declared.rule_sets.RuleSet.{RuleSet}
-use Rattle.sids_broken.specs.Around.{sizes_around, limit_around}
-use Rattle.sids_broken.specs.KindTests.{tests_of_base, zone_tests, array_tests, rind_tests, condition_tests, tests_on}
-use Rattle.sids_broken.specs.SectionTests.{section_parts, section_tests}
-use Rattle.sids_broken.specs.OffsetTests.{offset_tests_of}
+use Rattle.sids_readings.specs.declared.around.Surroundings.{Surroundings}
+use Rattle.sids_section_rules.specs.declared.section_rules.Spot.{Spot}
+use Rattle.sids_section_rules.specs.declared.part_rules.SectionParts.{SectionParts}
+use Rattle.sids_readings.specs.declared.rule_sets.RuleSet.{RuleSet}
+use Rattle.sids_readings.specs.Around.{sizes_around, limit_around}
+use Rattle.sids_node_rules.specs.KindTests.{tests_of_base, zone_tests, array_tests, rind_tests, condition_tests, tests_on}
+use Rattle.sids_section_rules.specs.SectionTests.{section_parts, section_tests}
+use Rattle.sids_offset_rules.specs.OffsetTests.{offset_tests_of}
 
 -- the nodes of a spot are there
 pub record IsSpot (files : Files) (spot : Spot) : Type 0 where

@@ -7,20 +7,22 @@ ghost use Rattle.sids_views.specs.Asks.{IsValueOr, HasAskCause, IsPlain};
 ghost use Rattle.sids_rules.specs.SeenNodes.{IsSeen};
 ghost use Rattle.sids_rules.specs.Rules.{check_rules, broken_numbers, place_kind, is_allowed};
 ghost use Rattle.sids_rules.specs.OffsetRules.{check4_rules};
-ghost use Rattle.sids_broken.specs.RuleSets.{rules_of};
-ghost use Rattle.sids_broken.specs.Held.{held};
-ghost use Rattle.sids_broken.specs.Around.{surroundings};
+ghost use Rattle.sids_readings.specs.RuleSets.{rules_of};
+ghost use Rattle.sids_readings.specs.Held.{held};
+ghost use Rattle.sids_readings.specs.Around.{surroundings};
 ghost use Rattle.sids_broken.specs.NodeTests.{IsSpot, tests_at, tests_with_place};
 
-use crate::around::{Surroundings, limit_around, sizes_around, surroundings_of};
-use crate::array_rules::{with_array_rules, with_condition_rules, with_rind_rules};
-use crate::node_rules::{breaks_place, breaks_version};
-use crate::rule_sets::{RuleSet, one_rule, with_rule};
-use crate::section_rules::{Spot, with_section_rules};
-use crate::single_rules::with_single_rule;
-use crate::zone_rules::{with_base_rules, with_zone_rules};
+use crate::element_rules::with_section_rules;
 use adf_model::{AdfError, NodeId, Rules, TreeCalls};
+use sids_node_rules::{
+    breaks_place, breaks_version, with_array_rules, with_base_rules, with_condition_rules,
+    with_rind_rules, with_single_rule, with_zone_rules,
+};
+use sids_readings::{
+    RuleSet, Surroundings, limit_around, one_rule, sizes_around, surroundings_of, with_rule,
+};
 use sids_rules::Seen;
+use sids_section_rules::Spot;
 use sids_tables::LabelKind;
 use sids_views::{kind_of_node, target_of};
 use std::alloc::Global;

@@ -2,10 +2,10 @@ use Rattle.std.proofs.Common.{◌∙◌, sym, ap, subst, [], ◌∷◌}
 use Rattle.adf_model.specs.Slots.{Files}
 use Rattle.sids_views.specs.Asks.{IsValueOr}
 use Rattle.sids_views.proofs.Gathered.{told_after}
-use Rattle.sids_broken.specs.declared.section_rules.Spot.{Spot}
-use Rattle.sids_broken.specs.Held.{held}
+use Rattle.sids_section_rules.specs.declared.section_rules.Spot.{Spot}
+use Rattle.sids_readings.specs.Held.{held}
 use Rattle.sids_broken.specs.NodeTests.{tests_with_place}
-use Rattle.sids_broken.proofs.Keeping.{list_value}
+use Rattle.sids_readings.proofs.Keeping.{list_value}
 use Rattle.sids_broken.proofs.BrokenLaws.{root_are, others_are}
 use Rattle.sids_broken.proofs.broken_rules.broken_at.Goals as goal
 

@@ -1,5 +1,5 @@
 use Rattle.std.proofs.Common.{◌∙◌, sym}
-use Rattle.sids_broken.proofs.Keeping.{list_value}
+use Rattle.sids_readings.proofs.Keeping.{list_value}
 use Rattle.sids_broken.proofs.BrokenLaws.{lost_are}
 use Rattle.sids_broken.proofs.broken_rules.broken_by.Goals as goal
 

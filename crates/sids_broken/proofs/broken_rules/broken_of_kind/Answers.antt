@@ -1,7 +1,7 @@
 use Rattle.std.proofs.Common.{◌∙◌, sym, ap, subst, not, ◌∷◌, ◌++◌}
 use Rattle.sids_views.specs.Asks.{IsValueOr}
 use Rattle.sids_rules.specs.Rules.{place_kind, is_allowed}
-use Rattle.sids_broken.specs.Held.{held}
+use Rattle.sids_readings.specs.Held.{held}
 use Rattle.sids_broken.specs.NodeTests.{tests_at}
 use Rattle.sids_broken.proofs.BrokenLaws.{place_first}
 use Rattle.sids_broken.proofs.broken_rules.broken_of_kind.Goals as goal

@@ -3,9 +3,9 @@ use Rattle.adf_model.specs.Slots.{Files}
 use Rattle.sids_views.specs.Asks.{IsValueOr}
 use Rattle.sids_views.proofs.Gathered.{told_after}
 use Rattle.sids_rules.specs.Rules.{place_kind, is_allowed}
-use Rattle.sids_broken.specs.Held.{held}
+use Rattle.sids_readings.specs.Held.{held}
 use Rattle.sids_broken.specs.NodeTests.{tests_at}
-use Rattle.sids_broken.proofs.HeldLaws.{held_cons}
+use Rattle.sids_readings.proofs.HeldLaws.{held_cons}
 use Rattle.sids_broken.proofs.broken_rules.with_placed_rules.Goals as goal
 
 pub returns-in-Ok-with_rule-clause-value : goal.returns-in-Ok-with_rule-clause-value

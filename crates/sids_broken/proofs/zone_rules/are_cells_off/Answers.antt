@@ -1,6 +1,0 @@
-use Rattle.std.proofs.lemmas.Bool.Decides.{same_from_decides}
-use Rattle.sids_rules.proofs.Decided.{cell_size_decided}
-use Rattle.sids_broken.proofs.zone_rules.are_cells_off.Goals as goal
-
-pub returns : goal.returns
-returns c = same_from_decides _ _ c.breaks_k10.ensures (cell_size_decided c.args.kind c.args.vertex.now c.args.cell.now)

@@ -1,0 +1,3 @@
+pub mod NodeRules
+pub mod Fields
+pub mod KindTests

@@ -1,0 +1,4 @@
+pub mod OffsetParts
+pub mod Pieces
+pub mod Faces
+pub mod OffsetTests

@@ -1,0 +1,9 @@
+pub mod ListLaws
+pub mod NumberLaws
+pub mod TextLaws
+pub mod SmallLaws
+pub mod RindLaws
+pub mod LimitLaws
+pub mod ZoneLaws
+pub mod Keeping
+pub mod HeldLaws

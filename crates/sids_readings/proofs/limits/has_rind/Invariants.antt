@@ -1,0 +1,17 @@
+use Rattle.std.proofs.Common.{◌≡◌, drop}
+use Rattle.std.specs.List.{list_any}
+use Rattle.adf_model.specs.Causes.{OnlyAsks}
+use Rattle.adf_model.specs.Slots.{IsTold}
+use Rattle.sids_readings.specs.Limits.{has_grid_rind}
+use Rattle.sids_readings.proofs.limits.has_rind.Given as goal
+
+-- only questions were asked, and what is left of the children says the same as all of them
+abbrev pub invariant-loop-child : goal.invariant-loop-child
+invariant-loop-child g l =
+    let files = g.C.TreeCalls.files in
+    let devices = g.C.TreeCalls.devices in
+    record {
+      ready : g.C.TreeCalls.is_ready l.calls;
+      only : OnlyAsks (files l.fn.calls) (devices l.fn.calls) (devices l.calls) (files l.calls);
+      rest : IsTold (files l.fn.calls) (devices l.fn.calls) → list_any (has_grid_rind (files l.fn.calls)) (drop l.child-index l.children) ≡ list_any (has_grid_rind (files l.fn.calls)) l.children;
+    }

@@ -1,0 +1,10 @@
+pub mod Shown
+pub mod Reading
+pub mod WordLists
+pub mod Pairs
+pub mod Kinds
+pub mod Rinds
+pub mod Limits
+pub mod RuleSets
+pub mod Held
+pub mod Around

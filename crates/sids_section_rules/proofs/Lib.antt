@@ -1,0 +1,3 @@
+pub mod OverlapLaws
+pub mod EntryLaws
+pub mod PartLaws

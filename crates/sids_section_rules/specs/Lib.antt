@@ -1,0 +1,4 @@
+pub mod Overlaps
+pub mod Entries
+pub mod SectionTests
+pub mod Parts

@@ -1,0 +1,16 @@
+//! The rules of the checker on sections of elements, over any trees, but for those on offsets.
+
+#![tactic(auto)]
+
+mod connectivities;
+mod entries;
+mod overlaps;
+mod part_rules;
+mod parts;
+mod section_rules;
+
+pub use connectivities::{breaks_connectivity_nodes, breaks_connectivity_size};
+pub use entries::{EntryTest, has_failing_entry};
+pub use overlaps::breaks_sections_overlap;
+pub use part_rules::{SectionParts, section_parts};
+pub use section_rules::{Spot, with_check_rules};
