@@ -241,13 +241,21 @@ fn puts(
 
 // Whether all runs end within data of this size.
 fn are_within(runs: &[Run], element: u64, size: u64) -> bool
-    requires small { All (EndsIn element (2 ^ 30)) runs.now }
     ensures { IsTrue result → All (EndsIn element size) runs.now }
 {
+    if element > 1 << 20 {
+        return false;
+    }
     match runs {
         [] => true,
         [run, rest @ ..] => {
-            (run.first + run.count) * element <= size && are_within(rest, element, size)
+            if run.first > 1 << 20 || run.count > 1 << 20 {
+                return false;
+            }
+            if (run.first + run.count) * element > size {
+                return false;
+            }
+            are_within(rest, element, size)
         }
     }
 }

@@ -364,7 +364,7 @@ fn as_many_chunks_as_a_table_lists_are_gathered(rt: HostRuntime) -> Result<(), F
     run_at(&rt, rt.alloc(), space, at, 2_999_999, 4096, &A_CROWDED_FILE)
 }
 
-// A chunk is at least 32 bytes long, and zeros stand behind its data.
+// A chunk is at least 32 bytes long, with zeros behind its data. One of 120 bytes does not fit where one of 32 was given.
 const PUT: [Step; 11] = [
     Step::Put { bytes: b"abcde" },
     Step::One { place: 1130 },
@@ -376,9 +376,9 @@ const PUT: [Step; 11] = [
     },
     Step::Release,
     Step::Put { bytes: &HUNDRED },
-    Step::One { place: 1130 },
+    Step::One { place: 1162 },
     Step::Length { is: 120 },
-    Step::End { is: 1249 },
+    Step::End { is: 1281 },
     Step::Read {
         element: 50,
         runs: &[(0, 2)],
