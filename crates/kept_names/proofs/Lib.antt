@@ -1,0 +1,4 @@
+pub mod ListLaws
+pub mod Counts
+pub mod Ties
+pub mod UndoLaws
