@@ -388,7 +388,7 @@ const PUT: [Step; 11] = [
 
 #[test]
 fn data_are_put_where_there_are_none(rt: HostRuntime) -> Result<(), Fail> {
-    let space = Bytes::new(rt.alloc(), 4096)?;
+    let space = front(rt.alloc(), 4096)?;
     run_on(&rt, rt.alloc(), space, 1129, 1, &PUT)
 }
 
@@ -411,6 +411,6 @@ const PUT_IN_PART: [Step; 5] = [
 
 #[test]
 fn elements_are_put_over_zeros(rt: HostRuntime) -> Result<(), Fail> {
-    let space = Bytes::new(rt.alloc(), 4096)?;
+    let space = front(rt.alloc(), 4096)?;
     run_on(&rt, rt.alloc(), space, 1129, 1, &PUT_IN_PART)
 }
