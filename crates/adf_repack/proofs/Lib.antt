@@ -9,3 +9,4 @@ pub mod PayloadLaws
 pub mod CopyingLaws
 pub mod PlanLaws
 pub mod NodeLaws
+pub mod MeasureLaws

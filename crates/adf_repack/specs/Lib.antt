@@ -5,3 +5,4 @@ pub mod Copies
 pub mod Sources
 pub mod Payloads
 pub mod Plans
+pub mod Measures

@@ -9,6 +9,7 @@ mod data;
 mod families;
 mod files;
 mod headers;
+mod measuring;
 mod nodes;
 mod payloads;
 mod places;
@@ -26,6 +27,7 @@ pub use files::{copy_file, write_file};
 pub use headers::{
     copied_is_packed, dimensions_fit, dimensions_within, file_header, no_lists, packed_header,
 };
+pub use measuring::{measure, measure_node};
 pub use nodes::{copy_node, copy_nodes, copy_parts};
 pub use payloads::{Payload, read_chunk, read_payload};
 pub use places::{NodeShape, PackedPlaces, check_length, length_is_packed, packed_places};

@@ -68,7 +68,7 @@ pub fn copy_parts<B: Blocks, E: Device>(
 }
 
 // Where the old header of a node stands.
-fn old_place(nodes: &[NodePlace], number: usize) -> u64
+pub(crate) fn old_place(nodes: &[NodePlace], number: usize) -> u64
     requires { number < length nodes.now }
     ensures { result ≡ old_place nodes.now number }
 {
