@@ -10,3 +10,5 @@ pub mod CopyingLaws
 pub mod PlanLaws
 pub mod NodeLaws
 pub mod MeasureLaws
+pub mod CauseLaws
+pub mod PlanningLaws

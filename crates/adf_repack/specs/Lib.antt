@@ -6,3 +6,4 @@ pub mod Sources
 pub mod Payloads
 pub mod Plans
 pub mod Measures
+pub mod Planning

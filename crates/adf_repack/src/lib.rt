@@ -14,6 +14,7 @@ mod nodes;
 mod payloads;
 mod places;
 mod plan;
+mod planning;
 mod puts;
 mod reads;
 mod source;
@@ -32,6 +33,7 @@ pub use nodes::{copy_node, copy_nodes, copy_parts};
 pub use payloads::{Payload, read_chunk, read_payload};
 pub use places::{NodeShape, PackedPlaces, check_length, length_is_packed, packed_places};
 pub use plan::Plan;
+pub use planning::{Planned, plan_copy};
 pub use puts::{
     put, put_chunk_end, put_chunk_head, put_entry, put_head, put_header, put_table_end,
     put_table_head,
