@@ -12,3 +12,7 @@ pub mod NodeLaws
 pub mod MeasureLaws
 pub mod CauseLaws
 pub mod PlanningLaws
+pub mod TextLaws
+pub mod ChildLaws
+pub mod RoomLaws
+pub mod WholeLaws

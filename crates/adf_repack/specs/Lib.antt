@@ -7,3 +7,4 @@ pub mod Payloads
 pub mod Plans
 pub mod Measures
 pub mod Planning
+pub mod Given

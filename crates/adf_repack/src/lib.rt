@@ -9,6 +9,7 @@ mod data;
 mod families;
 mod files;
 mod headers;
+mod laws;
 mod measuring;
 mod nodes;
 mod payloads;
@@ -28,6 +29,7 @@ pub use files::{copy_file, write_file};
 pub use headers::{
     copied_is_packed, dimensions_fit, dimensions_within, file_header, no_lists, packed_header,
 };
+pub use laws::found_nodes_are_given;
 pub use measuring::{measure, measure_node};
 pub use nodes::{copy_node, copy_nodes, copy_parts};
 pub use payloads::{Payload, read_chunk, read_payload};
