@@ -8,3 +8,4 @@ pub mod Plans
 pub mod Measures
 pub mod Planning
 pub mod Given
+pub mod Repacks

@@ -20,6 +20,7 @@ mod puts;
 mod reads;
 mod source;
 mod tables;
+mod whole;
 mod writer;
 
 pub use copies::{copy_entries, copy_range};
@@ -43,4 +44,5 @@ pub use puts::{
 pub use reads::{read_file_header, read_header, read_name, size_of_data};
 pub use source::{Page, bytes_at, read_at};
 pub use tables::{copy_children, copy_table};
+pub use whole::{Packed, Target, repack, write_packed};
 pub use writer::BlockWriter;
