@@ -12,7 +12,7 @@ returns-clause-says c =
       c.pointer.ensures.says,
       c.pointer-2.ensures.says,
       c.chunk_count.ensures,
-      c.header_length.ensures,
+      c.node_length.ensures,
       c.table_room.ensures,
       c.is_some.ensures,
       limited_is (table_room c.args.shape.children) (omega (arith, c.requires.near)),

@@ -65,7 +65,7 @@ copy_children-requires-clause-near g c =
     let k = c.args.number in
     let h : header_at plan k + (node_length plan.wide + table_room (shape_at plan k).children + data_room (shape_at plan k).size) ≤ 2 ^ 44 = fits c.args.nodes.now plan k c.requires.plan c.requires.number in
     let at : c.header-at.result ≡ header_at plan k = c.header-at.ensures ∙ c.requires.plan.places k c.requires.number in
-    let long : c.header_length.result ≡ node_length plan.wide = c.header_length.ensures in
+    let long : c.node_length.result ≡ node_length plan.wide = c.node_length.ensures in
     omega (arith, h, at, long)
 
 pub copy_children-requires-clause-within : goal.copy_children-requires-clause-within
@@ -83,7 +83,7 @@ copy_contents-requires-clause-chunk g c =
     let k = c.args.number in
     let h : header_at plan k + (node_length plan.wide + table_room (shape_at plan k).children + data_room (shape_at plan k).size) ≤ 2 ^ 44 = fits c.args.nodes.now plan k c.requires.plan c.requires.number in
     let at : c.header-at.result ≡ header_at plan k = c.header-at.ensures ∙ c.requires.plan.places k c.requires.number in
-    let long : c.header_length.result ≡ node_length plan.wide = c.header_length.ensures in
+    let long : c.node_length.result ≡ node_length plan.wide = c.node_length.ensures in
     let room : table_room c.shape-shape.result.children ≡ table_room (shape_at plan k).children = ap (λ (s : NodeShape). table_room s.children) c.shape-shape.ensures in
     let bytes : data_room c.shape-shape.result.size ≡ data_room (shape_at plan k).size = ap (λ (s : NodeShape). data_room s.size) c.shape-shape.ensures in
     let table = c.table_room.ensures in
@@ -114,8 +114,8 @@ returns g c =
     let again = (g.B.Blocks.state c.copy_children.new.blocks).held in
     let broken : ℕ → ℕ → Type 0 = BreaksParts held wide nodes plan k c.args.place r in
     let text : List ℕ = node_text (record_of c.packed_header-packed.result) in
-    let place : ℕ = c.header-at.result + c.header_length.result in
-    let chunk : ℕ = c.header-at.result + c.header_length.result + c.table_room.result in
+    let place : ℕ = c.header-at.result + c.node_length.result in
+    let chunk : ℕ = c.header-at.result + c.node_length.result + c.table_room.result in
     let tables : List ℕ → List ℕ = λ image. copied_children image table nodes plan.headers.items kids place in
     let bytes : List ℕ → List ℕ = λ image. copied_data image r shape.size chunk in
     let n : ℕ = node_length plan.wide in
@@ -138,7 +138,7 @@ returns g c =
     c.copy_children.new.blocks c.copy_contents.new.blocks c.copy_contents.new.page c.copy_children.new.writer c.copy_contents.new.writer c.copy_contents.result c.copy_contents.ensures.copies in
     copies_as g.B.Blocks.is_sound g.B.Blocks.state g.E.Device.state broken (n + (m + o)) (room_of plan.wide (shape_at plan k)) (λ image. text ++ (tables image ++ bytes image)) (λ image. copied_node image nodes plan k r)
     c.args.blocks.now c.copy_contents.new.blocks c.copy_contents.new.page c.args.writer.now c.copy_contents.new.writer c.copy_contents.result all
-    (λ image. parts_are image nodes plan k r (record_of c.packed_header-packed.result) c.header-at.result c.header_length.result c.table_room.result shape c.packed_header-packed.ensures.says at c.shape-shape.ensures c.header_length.ensures room)
+    (λ image. parts_are image nodes plan k r (record_of c.packed_header-packed.result) c.header-at.result c.node_length.result c.table_room.result shape c.packed_header-packed.ensures.says at c.shape-shape.ensures c.node_length.ensures room)
     (copies_then g.B.Blocks.is_sound g.B.Blocks.state g.E.Device.state broken n (m + o) (λ image. text) (λ image. tables image ++ bytes image)
     c.args.blocks.now c.args.blocks.now c.args.page.now c.args.writer.now c.put_header.new.writer c.in-Ok.field-0 c.copy_contents.new.blocks c.copy_contents.new.page c.copy_contents.new.writer c.copy_contents.result first
     (copies_then g.B.Blocks.is_sound g.B.Blocks.state g.E.Device.state broken m o tables bytes

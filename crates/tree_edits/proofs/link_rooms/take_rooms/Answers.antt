@@ -21,15 +21,15 @@ returns-in-Err-clause-writes g c =
       sound = c.in-Err.ensures.writes.sound;
       waits = omega (arith, c.in-Err.ensures.writes.waits);
       effect = few_only 64 _ _ c.in-Err.ensures.writes.effect;
-      cause = roomless_behind (LacksBytes heap.limit c.header_length.result heap.work.heap) (LacksRooms heap.limit (node_length c.args.wide) c.args.chunk c.args.parent heap.work.heap) untold untold (λ x. x)
-          (λ asked end l. inl (subst (λ n. LacksBytes heap.limit n heap.work.heap asked end) c.header_length.ensures l)) _ (g.S.ReadBytes.state c.args.space.now).faults _ c.in-Err.error (omega arith) c.in-Err.ensures.writes.cause;
+      cause = roomless_behind (LacksBytes heap.limit c.node_length.result heap.work.heap) (LacksRooms heap.limit (node_length c.args.wide) c.args.chunk c.args.parent heap.work.heap) untold untold (λ x. x)
+          (λ asked end l. inl (subst (λ n. LacksBytes heap.limit n heap.work.heap asked end) c.node_length.ensures l)) _ (g.S.ReadBytes.state c.args.space.now).faults _ c.in-Err.error (omega arith) c.in-Err.ensures.writes.cause;
     }
 
 pub returns-in-Err-take_table-clause-writes : goal.returns-in-Err-take_table-clause-writes
 returns-in-Err-take_table-clause-writes g c =
     let heap = c.args.heap.now in
     let between = c.take_room.new.heap in
-    let taken = subst (λ n. heap_take heap.limit n heap.work.heap ≡ Ok (c.in-Ok.place, between.work.heap)) c.header_length.ensures c.in-Ok.ensures.taken in
+    let taken = subst (λ n. heap_take heap.limit n heap.work.heap ≡ Ok (c.in-Ok.place, between.work.heap)) c.node_length.ensures c.in-Ok.ensures.taken in
     let one = few_only 64 _ _ c.in-Ok.ensures.writes.effect in
     let effect = only_then _ _ _ one (few_only 64 _ _ c.in-Err-take_table.ensures.writes.effect) in
     record {
@@ -37,7 +37,7 @@ returns-in-Err-take_table-clause-writes g c =
       waits = omega (arith, c.in-Ok.ensures.writes.waits, c.in-Err-take_table.ensures.writes.waits);
       effect = effect;
       cause = roomless_behind (LacksTable between.limit c.args.parent between.work.heap) (LacksRooms heap.limit (node_length c.args.wide) c.args.chunk c.args.parent heap.work.heap) (IsUntold (g.S.ReadBytes.image c.take_room.new.space)) (IsUntold (g.S.ReadBytes.image c.args.space.now))
-          (told_both (Takes heap.limit c.header_length.result c.in-Ok.place heap.work between.work) (g.S.ReadBytes.image c.args.space.now) (g.S.ReadBytes.image c.take_room.new.space) c.in-Ok.ensures.takes)
+          (told_both (Takes heap.limit c.node_length.result c.in-Ok.place heap.work between.work) (g.S.ReadBytes.image c.args.space.now) (g.S.ReadBytes.image c.take_room.new.space) c.in-Ok.ensures.takes)
           (λ asked end l. inr (c.in-Ok.place, between.work.heap, taken, inl (subst (λ k. LacksTable k c.args.parent between.work.heap asked end) c.in-Ok.ensures.kept.limit l)))
           _ (g.S.ReadBytes.state c.take_room.new.space).faults _ c.in-Err-take_table.error one.faults c.in-Err-take_table.ensures.writes.cause;
     }
@@ -47,10 +47,10 @@ returns-in-Err-take_room-clause-writes g c =
     let heap = c.args.heap.now in
     let between = c.take_room.new.heap in
     let again = c.take_table.new.heap in
-    let taken = subst (λ n. heap_take heap.limit n heap.work.heap ≡ Ok (c.in-Ok.place, between.work.heap)) c.header_length.ensures c.in-Ok.ensures.taken in
+    let taken = subst (λ n. heap_take heap.limit n heap.work.heap ≡ Ok (c.in-Ok.place, between.work.heap)) c.node_length.ensures c.in-Ok.ensures.taken in
     let tabled = subst (λ k. HeapTakesTable k c.args.parent c.in-Ok-take_table.table between.work.heap again.work.heap) c.in-Ok.ensures.kept.limit c.in-Ok-take_table.ensures.taken in
     let two = only_then _ _ _ (few_only 64 _ _ c.in-Ok.ensures.writes.effect) (few_only 64 _ _ c.in-Ok-take_table.ensures.writes.effect) in
-    let told_one = told_both (Takes heap.limit c.header_length.result c.in-Ok.place heap.work between.work) (g.S.ReadBytes.image c.args.space.now) (g.S.ReadBytes.image c.take_room.new.space) c.in-Ok.ensures.takes in
+    let told_one = told_both (Takes heap.limit c.node_length.result c.in-Ok.place heap.work between.work) (g.S.ReadBytes.image c.args.space.now) (g.S.ReadBytes.image c.take_room.new.space) c.in-Ok.ensures.takes in
     let told_two = told_both (TakesTable between.limit c.args.parent c.in-Ok-take_table.table between.work again.work) (g.S.ReadBytes.image c.take_room.new.space) (g.S.ReadBytes.image c.take_table.new.space) c.in-Ok-take_table.ensures.takes in
     record {
       sound = c.in-Err-take_room.ensures.writes.sound;
@@ -70,7 +70,7 @@ returns-in-Ok-take_room-clause-takes g c =
     let rooms : Rooms = record { header = c.in-Ok.place; table = c.in-Ok-take_table.table; chunk = c.in-Ok-take_room.place } in
     rooms_held heap.limit (node_length c.args.wide) c.args.chunk c.args.parent rooms heap.work between.work again.work c.take_room-2.new.heap.work
     (g.S.ReadBytes.image c.args.space.now) (g.S.ReadBytes.image c.take_room.new.space) (g.S.ReadBytes.image c.take_table.new.space) (g.S.ReadBytes.image c.take_room-2.new.space)
-    (subst (λ n. Both (Takes heap.limit n c.in-Ok.place heap.work between.work) (g.S.ReadBytes.image c.args.space.now) (g.S.ReadBytes.image c.take_room.new.space)) c.header_length.ensures c.in-Ok.ensures.takes)
+    (subst (λ n. Both (Takes heap.limit n c.in-Ok.place heap.work between.work) (g.S.ReadBytes.image c.args.space.now) (g.S.ReadBytes.image c.take_room.new.space)) c.node_length.ensures c.in-Ok.ensures.takes)
     (subst (λ k. Both (TakesTable k c.args.parent c.in-Ok-take_table.table between.work again.work) (g.S.ReadBytes.image c.take_room.new.space) (g.S.ReadBytes.image c.take_table.new.space)) c.in-Ok.ensures.kept.limit c.in-Ok-take_table.ensures.takes)
     (subst (λ k. Both (Takes k c.args.chunk c.in-Ok-take_room.place again.work c.take_room-2.new.heap.work) (g.S.ReadBytes.image c.take_table.new.space) (g.S.ReadBytes.image c.take_room-2.new.space)) (c.in-Ok-take_table.ensures.kept.limit ∙ c.in-Ok.ensures.kept.limit) c.in-Ok-take_room.ensures.takes)
 
