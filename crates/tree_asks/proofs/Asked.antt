@@ -110,7 +110,7 @@ reads_nothing core held at (FormatOf node) a = reads_none 1 a
 reads_nothing core held at (Parent node) a = reads_none 0 a
 reads_nothing core held at (Target node) a = reads_none 0 a
 
-module _ {S : Type 0} (is_sound : S → Type 0) (image : S → Option (List ℕ)) (state : S → DeviceState) (waiting : S → ℕ) (core : Core) (held : Option (List ℕ)) (at : NodeId) where
+module _ {S : Type 0} (is_sound : S → Type 0) (image : S → Option (List ℕ)) (state : S → DeviceState) (waiting : S → List ℕ) (core : Core) (held : Option (List ℕ)) (at : NodeId) where
   abbrev pub Asked : Query → S → S → Result Reply AdfError → Type 0
   Asked query old new r = AnswersRead is_sound image state waiting (AskReads core held at query) (IsAskCause core held at query) old new r
 
