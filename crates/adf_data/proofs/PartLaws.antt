@@ -1,10 +1,10 @@
 -- Elements that are put where there are no data: zeros, and the elements over them.
-use Rattle.std.proofs.Common.{◌≡◌, ◌≢◌, ◌⊎◌, inl, inr, ℕ, ◌+◌, ◌-◌, ◌*◌, ◌/◌, ◌<◌, ◌≤◌, arith, min, List, [], ◌∷◌, ◌++◌, length, take, drop, get_or, replicate, refl, sym, ◌∙◌, ap, subst, true, false, cond}
+use Rattle.std.proofs.Common.{◌≡◌, ◌≢◌, ◌⊎◌, inl, inr, ℕ, ◌+◌, ◌-◌, ◌*◌, ◌<◌, ◌≤◌, arith, min, List, [], ◌∷◌, ◌++◌, length, take, drop, get_or, replicate, refl, sym, ◌∙◌, ap, true, false, cond}
 use Rattle.std.proofs.lemmas.Bool.{cases_lt}
 use Rattle.std.proofs.lemmas.Grind.{same_number_lists}
 use Rattle.std.proofs.lemmas.List.{append-nil, get_or-take, get_or_append_left, get_or-append_right, get_or-replicate, length-append, length-take, length-replicate, take-replicate}
 use Rattle.std.proofs.lemmas.List.Elements.{recursion_from_All}
-use Rattle.std.specs.Prelude.{Option, None}
+use Rattle.std.specs.Prelude.{Option}
 use Rattle.std.specs.List.{All}
 use Rattle.cg_io.specs.Blocks.{Both, KeepsOutside}
 use Rattle.cg_io.specs.Waits.{IsTouched, WaitsOnly}
@@ -15,8 +15,7 @@ use Rattle.adf_format.specs.Tiles.{cover, holds_byte}
 use Rattle.adf_format.specs.declared.types.ExtentKind.{ExtentKind}
 use Rattle.adf_format.specs.Parts.{payload}
 use Rattle.adf_format.specs.Placement.{ChunkPart, extent, chunk_extents}
-use Rattle.adf_format.specs.LaysOut.{payloads}
-use Rattle.adf_format.specs.HeapRule.{chunk, payload_length}
+use Rattle.adf_format.specs.HeapRule.{chunk}
 use Rattle.adf_model.specs.declared.lists.Run.{Run}
 use Rattle.adf_model.specs.Selection.{written_over, with_elements}
 use Rattle.strided.specs.RunLists.{spread}

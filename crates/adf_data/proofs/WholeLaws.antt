@@ -1,20 +1,20 @@
 -- Data that are put whole stand where the rule places them.
-use Rattle.std.proofs.Common.{◌≡◌, inl, ℕ, ◌+◌, ◌-◌, ◌<◌, ◌≤◌, arith, List, [], ◌∷◌, ◌++◌, length, take, replicate, refl, sym, ◌∙◌, ap, subst}
+use Rattle.std.proofs.Common.{◌≡◌, inl, ℕ, ◌+◌, ◌-◌, ◌≤◌, arith, List, [], ◌∷◌, ◌++◌, length, take, replicate, refl, sym, ◌∙◌, ap, subst}
 use Rattle.std.proofs.lemmas.List.{append-nil}
 use Rattle.std.proofs.Math.Seq.{take-append-add}
 use Rattle.std.specs.Prelude.{Option, Some, None, IfSome, Ok, Err}
 use Rattle.cg_io.specs.Blocks.{Both}
 use Rattle.adf_format.specs.Pointer.{To}
 use Rattle.adf_format.specs.Parts.{payload}
-use Rattle.adf_format.specs.Placement.{Placement, NodeParts, ChunkPart, Heap}
-use Rattle.adf_format.specs.HeapRule.{LimitReached, heap_take, give_all, chunk, chunk_length_for, data_extents, hold, in_one_chunk, ◌>>=◌}
-use Rattle.adf_model.specs.NodeData.{DataSpot, alone, spot_of}
+use Rattle.adf_format.specs.Placement.{Placement, ChunkPart, Heap}
+use Rattle.adf_format.specs.HeapRule.{LimitReached, heap_take, give_all, chunk, chunk_length_for, data_extents, hold, ◌>>=◌}
+use Rattle.adf_model.specs.NodeData.{alone, spot_of}
 use Rattle.disk_ptr.specs.View.{view}
 use Rattle.file_heap.specs.Heap.{FreeSpace, IsThreaded, MovesEnd, KeepsFillers}
 use Rattle.adf_data.specs.declared.place.DataPlace.{DataPlace}
 use Rattle.adf_data.specs.Fills.{MakesText}
 use Rattle.adf_data.specs.Sizes.{extents_in}
-use Rattle.adf_data.specs.Growing.{KeepsHeap, Puts, PutsData, IsFullFor}
+use Rattle.adf_data.specs.Growing.{KeepsHeap, PutsData, IsFullFor}
 use Rattle.adf_data.proofs.SizeLaws.{placed_once, one_placed, one_refused}
 
 -- a text and what stands behind it begin with the text

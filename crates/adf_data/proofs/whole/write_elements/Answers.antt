@@ -1,6 +1,4 @@
 use Rattle.std.proofs.Common.{◌+◌, ◌^◌, ◌∙◌, ◌-◌, arith}
-use Rattle.adf_format.specs.HeapRule.{payload_length}
-use Rattle.adf_data.specs.Chunks.{parts_of}
 use Rattle.adf_data.proofs.WriteLaws.{bytes_of_spread}
 use Rattle.adf_data.proofs.PartLaws.{elements_wait, all_elements_made, elements_change, ends_later}
 use Rattle.adf_data.proofs.whole.write_elements.Goals as goal
