@@ -24,8 +24,8 @@ use field_access::{write_field, write_number};
 use file_heap::Heap;
 use node_reads::name_field;
 
-// Lists a child in an unused entry, and counts it.
-pub(crate) fn join_unused<S: Space>(
+/// Lists a child in an unused entry, and counts it.
+pub fn join_unused<S: Space>(
     space: &mut S,
     parent: Parent,
     entry: &[u8; 44],

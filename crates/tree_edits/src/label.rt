@@ -18,8 +18,8 @@ use cg_io::Space;
 use field_access::write_field;
 use node_reads::{name_field, read_header};
 
-// Whether a header is that of a link.
-pub(crate) fn is_link(header: &NodeHeader) -> bool
+/// Whether a header is that of a link.
+pub fn is_link(header: &NodeHeader) -> bool
     ensures { result ≡ is_lk header.now.kind }
 {
     matches!(header.kind, DataType::Lk)

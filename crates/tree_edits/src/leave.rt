@@ -50,8 +50,8 @@ fn move_piece<S: Space>(space: &mut S, from: u64, to: u64, count: usize) -> Resu
     move_through(space, from, to, &mut piece[..count])
 }
 
-// Moves bytes up to a place before them, a block of the place at a time: a piece is read before it is written over.
-fn move_up<S: Space>(space: &mut S, from: u64, to: u64, count: u64) -> Result<(), AdfError>
+/// Moves bytes up to a place before them, a block of the place at a time: a piece is read before it is written over.
+pub fn move_up<S: Space>(space: &mut S, from: u64, to: u64, count: u64) -> Result<(), AdfError>
     requires sound { S.is_sound space.old }
     requires up { to ≤ from }
     requires within { from + count ≤ 2 ^ 44 }

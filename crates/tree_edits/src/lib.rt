@@ -21,10 +21,14 @@ mod room;
 mod rows;
 
 pub use creation::create;
-pub use label::set_label;
-pub use leave::leave_list;
+pub use join::join_unused;
+pub use label::{is_link, set_label};
+pub use leave::{leave_list, move_up};
+pub use link_rooms::take_table;
 pub use linking::link;
 pub use listed::{Listed, find_listed};
+pub use longer::{give_table, grown, write_table};
 pub use memory::Core;
 pub use name::rename;
+pub use room::Parent;
 pub use rows::{Row, Rows};

@@ -47,8 +47,8 @@ pub(crate) fn take_room<S: Space>(space: &mut S, heap: &mut Heap, n: u64) -> Res
     }
 }
 
-// Takes room for a longer table, where the one of a parent is full.
-fn take_table<S: Space>(
+/// Takes room for a longer table, where the one of a parent is full.
+pub fn take_table<S: Space>(
     space: &mut S,
     heap: &mut Heap,
     parent: Parent,

@@ -125,8 +125,8 @@ fn clear_bytes<S: Space>(space: &mut S, at: u64, count: u64) -> Result<(), AdfEr
     Ok(())
 }
 
-// Writes a table that has the entries in use of another, one entry more, and unused ones behind it.
-fn write_table<S: Space>(
+/// Writes a table that has the entries in use of another, one entry more, and unused ones behind it.
+pub fn write_table<S: Space>(
     space: &mut S,
     old: ChildTable,
     place: u64,
@@ -166,16 +166,20 @@ fn write_table<S: Space>(
     write_field(space, end, &tail(Part::SubNodes))
 }
 
-// The entries of the table that takes the place of a full one of so many.
-pub(crate) fn grown(count: u32) -> u32
+/// The entries of the table that takes the place of a full one of so many.
+pub fn grown(count: u32) -> u32
     requires { count ≤ 2 ^ 20 }
     ensures { result ≡ grown_entries count }
 {
     (count + count / 2).max(8)
 }
 
-// Gives the bytes of a table, if there is one.
-fn give_table<S: Space>(space: &mut S, heap: &mut Heap, table: ChildTable) -> Result<(), AdfError>
+/// Gives the bytes of a table, if there is one.
+pub fn give_table<S: Space>(
+    space: &mut S,
+    heap: &mut Heap,
+    table: ChildTable,
+) -> Result<(), AdfError>
     requires sound { S.is_sound space.old }
     requires within { table.place + table_length table.entries ≤ 2 ^ 44 }
     requires threads { IfSome (S.image space.old) (IsThreaded heap.old.work) }

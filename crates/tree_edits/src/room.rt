@@ -20,9 +20,11 @@ use node_reads::{ChildTable, Wanted, child_table, find_entry, name_field, read_h
 
 /// A node that may get a new child, and its table of children.
 #[derive(Clone, Copy, Drop)]
-pub(crate) struct Parent {
-    pub(crate) row: Row,
-    pub(crate) table: ChildTable,
+pub struct Parent {
+    /// The row of the node.
+    pub row: Row,
+    /// Its table.
+    pub table: ChildTable,
 }
 
 // How many children a node may have, how far below the root a node may stand, and how many serials may be drawn.
