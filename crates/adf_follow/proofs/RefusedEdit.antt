@@ -220,7 +220,6 @@ module _ (files : Files) (before now : Devices) (edit : Edit) where
       by_error NotOpen h = absurd h
       by_error NoSuchFile h = absurd h
       by_error OtherFile h = absurd h
-      by_error LinkMissing h = absurd h
       by_error LinkChain h = absurd h
       by_error x h = (tt, h.0, h.1)
 

@@ -89,7 +89,7 @@ HasFieldCause files query number before now LinkMissing = ⊥
 HasFieldCause files query number before now LinkChain = ⊥
 HasFieldCause files query number before now error = IsTrue (may_refuse query error)
 
--- a step on one file fails as a look does, or with an error of the edit that is of no other file and of no link
+-- a step on one file fails as a look does, or with an error of the edit that is of no other file; a link that it names is missing where links are followed
 abbrev pub HasStepCause : Files → Edit → ℕ → Devices → Devices → AdfError → Type 0
 HasStepCause files edit number before now Memory = Unit {0}
 HasStepCause files edit number before now ReadFault = HasFileFault files number before now
@@ -98,7 +98,6 @@ HasStepCause files edit number before now AdfError.Broken = ⊥
 HasStepCause files edit number before now NotOpen = ⊥
 HasStepCause files edit number before now NoSuchFile = ⊥
 HasStepCause files edit number before now OtherFile = ⊥
-HasStepCause files edit number before now LinkMissing = ⊥
 HasStepCause files edit number before now LinkChain = ⊥
 HasStepCause files edit number before now error = (is_foreign_to_edits error ≡ false) × IsTrue (may_refuse_edit edit error)
 

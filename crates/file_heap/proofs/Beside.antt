@@ -12,6 +12,7 @@ use Rattle.adf_format.specs.LaysOut.{ThreadsFreeChunks, IsThreaded, first_place,
 use Rattle.adf_format.proofs.FrameLaws.{field_kept}
 use Rattle.adf_format.proofs.HeapSteps.{cover-append}
 use Rattle.file_heap.specs.Heap.{ChangesOnly}
+use Rattle.file_heap.specs.Heap as heap
 use Rattle.file_heap.specs.Links.{ThreadsThese, lists_of}
 use Rattle.file_heap.specs.Beside.{AreBeside, ListsStay, EndStays, FillersStay}
 use Rattle.file_heap.proofs.Ranges.{same_cover}
@@ -64,12 +65,14 @@ module _ (ranges : List Extent) (old new : List ℕ) (c : ChangesOnly ranges old
       free b some = beside.chunks b (subst (λ n. 0 < n) (same_cover (t.small ++ t.medium ++ t.large) (filter is_free gaps) t.all b) some)
 
 pub all_lists_stay : ListsStay
+unfolding heap.IsThreaded
 all_lists_stay ranges space None None c beside th = tt
 all_lists_stay ranges space None (Some new) c beside th = absurd c
 all_lists_stay ranges space (Some old) None c beside th = absurd c
 all_lists_stay ranges space (Some old) (Some new) c beside th = these_slots new space.heap.gaps space.slots th.threads th.spots (lists_stay ranges old new c space.heap.gaps beside th.threads)
 
 pub ends_stay : EndStays
+unfolding heap.IsThreaded
 ends_stay ranges space end old new c none th = end_stays ranges space.heap.gaps space.slots end old new none th c
 
 pub all_fillers_stay : FillersStay

@@ -20,7 +20,7 @@ use Rattle.adf_format.proofs.CountLaws.{none_holds}
 use Rattle.adf_format.proofs.HeapLaws.{in_range, cover-give_joined}
 use Rattle.adf_format.proofs.HeapSteps.{take_tiles, give_tiles, take_keeps_order, give_keeps_order}
 use Rattle.file_heap.specs.Gaps.{IsFirstFit, gap_at}
-use Rattle.file_heap.specs.Heap.{FreeSpace, HeapState, space_of, IsHeap, TakesBy, TakesOfTiles, TakesCover, IsTakenWithin, IsTakeRefusal, GivesToTiles, GivesCover, Grows, ChangesHeap, ChangesOnly, MovesEnd, KeepsThreads, KeepsFillers}
+use Rattle.file_heap.specs.Heap.{FreeSpace, HeapState, space_of, IsHeap, TakesBy, TakesOfTiles, TakesCover, IsTakenWithin, IsTakeRefusal, GivesToTiles, GivesCover, Grows, ChangesHeap, ChangesOnly, MovesEnd, KeepsThreads, KeepsFillers, IsThreaded}
 use Rattle.file_heap.specs.Slots.{AreFirst, BecomeSlots, ThreadsSlots}
 use Rattle.file_heap.specs.Links.{AreGaps, range, free_table, end_pointer}
 use Rattle.file_heap.proofs.Ranges.{cover_kinds}
@@ -178,6 +178,7 @@ module _ {S : Type 0} (is_sound : S → Type 0) (image : S → Option (List ℕ)
   pub grown_leaves : (n last : ℕ) (r : Result ℕ AdfError) → limit ≤ 2 ^ 32 → Grows limit n end r last → OnOk r (Both KeepsThreads (image old) (image new)) → Both (ChangesOnly (end_pointer ∷ [])) (image old) (image new)
       → OnOk r (Both (MovesEnd end last) (image old) (image new)) → ReadsFew 2 (state old) (state new) → how_many (waiting new) ≤ how_many (waiting old) + 1 → IfErr r (IsTakeRefusal (IsUntold (image old)) (state old).faults (state new).faults)
       → ChangesHeap is_sound image state waiting [] 9 (IsTakeRefusal (IsUntold (image old))) (state_of slots end kept limit) (state_of slots last kept limit) old new r
+  unfolding IsThreaded
   grown_leaves n last r most grows keeps c moves effect waits cause = record {
     kept = refl;
     limit = refl;
@@ -202,6 +203,7 @@ module _ {S : Type 0} (is_sound : S → Type 0) (image : S → Option (List ℕ)
       → IsHeap (heap_of (gaps_of after) end) → pairs (gaps_of after) ≤ pairs (gaps_of slots) → IsWithin (free_table ∷ given ++ gaps_of slots) (heap_fields ++ given ++ gaps_of slots) → MeetsNone HEADER_END.offset HEADER_END.length (free_table ∷ given ++ gaps_of slots)
       → Both (ChangesOnly (free_table ∷ given ++ gaps_of slots)) (image old) (image new) → n ≤ 64 → ReadsFew n (state old) (state new) → how_many (waiting new) ≤ how_many (waiting old) + most → IfErr r (Cause (state old).faults (state new).faults)
       → ChangesHeap is_sound image state waiting given most Cause (state_of slots end kept limit) (state_of after end kept limit) old new r
+  unfolding IsThreaded
   others_leave r becomes after given n most Cause b stays heap fewer within apart c few effect waits cause = record {
     kept = refl;
     limit = refl;

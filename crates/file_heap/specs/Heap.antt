@@ -36,8 +36,8 @@ pub record HeapState : Type 0 where
 abbrev pub space_of : List Slot → ℕ → FreeSpace
 space_of slots end = record { heap = record { gaps = gaps_of slots; end = end }; slots = slots }
 
--- The bytes thread the free chunks in lists as the free space remembers them.
-abbrev pub IsThreaded : FreeSpace → List ℕ → Type 0
+-- The bytes thread the free chunks in lists as the free space remembers them. Crates above cite it by its name alone.
+unfoldable pub IsThreaded : FreeSpace → List ℕ → Type 0
 IsThreaded space bytes = ThreadsSlots space.heap.gaps space.slots bytes
 
 -- the gaps stand by place, behind the free table and up to the end

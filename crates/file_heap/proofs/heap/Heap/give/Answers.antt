@@ -38,6 +38,7 @@ returns-clause-covers g c =
     (given_covers c.args.place c.args.n (gaps_of (slots_in c.self.inside.work c.self.inside.kept.value)) (gaps_of (slots_in c.give_back.new.work c.self.inside.kept.value)) c.self.inside.end c.give_back.result (gift_is c.args.place c.args.n c.self.inside.end (slots_in c.self.inside.work c.self.inside.kept.value) (slots_in c.give_back.new.work c.self.inside.kept.value) (g.S.ReadBytes.image c.args.space.now) (g.S.ReadBytes.image c.give_back.new.space) c.give_back.result c.give_back.ensures.given c.give_back.ensures.stays))
 
 pub returns-clause-changes : goal.returns-clause-changes
+unfolding IsThreaded
 returns-clause-changes g c =
     subst (λ (s : HeapState). ChangesHeap g.S.ReadBytes.is_sound g.S.ReadBytes.image g.S.ReadBytes.state g.S.ReadBytes.waiting (range c.args.place c.args.n ∷ []) 12 (IsRefusal (IsUntold (g.S.ReadBytes.image c.args.space.now))) s (state_of (slots_in c.give_back.new.work c.self.inside.kept.value) c.self.inside.end (space_of c.self.inside.kept.value c.self.inside.kept_end) c.self.inside.limit) c.args.space.now c.give_back.new.space c.give_back.result) c.self.view_is
     (given_leaves g.S.ReadBytes.is_sound g.S.ReadBytes.image g.S.ReadBytes.state g.S.ReadBytes.waiting (slots_in c.self.inside.work c.self.inside.kept.value) (slots_in c.give_back.new.work c.self.inside.kept.value) c.self.inside.end (space_of c.self.inside.kept.value c.self.inside.kept_end) c.self.inside.limit c.args.place c.args.n c.args.space.now c.give_back.new.space c.give_back.result c.requires.some
@@ -45,3 +46,7 @@ returns-clause-changes g c =
     (subst (λ (s : HeapState). c.args.place + c.args.n ≤ s.work.heap.end + 1) (sym c.self.view_is) c.requires.within.1) c.self.invariant.now_is c.give_back.ensures.sound
     (subst (λ (s : HeapState). IfSome (g.S.ReadBytes.image c.args.space.now) (IsThreaded s.work)) (sym c.self.view_is) c.requires.threads)
     c.give_back.ensures.given c.give_back.ensures.stays c.give_back.ensures.bytes c.give_back.ensures.effect c.give_back.ensures.waiting c.give_back.ensures.cause)
+
+pub give_back-requires-clause-threads : goal.give_back-requires-clause-threads
+unfolding IsThreaded
+give_back-requires-clause-threads g c = subst (λ (s : HeapState). IfSome (g.S.ReadBytes.image c.args.space.now) (IsThreaded s.work)) (sym c.self.view_is) c.requires.threads

@@ -26,6 +26,7 @@ returns-in-None-clause-covers g c =
     (grown_takes c.self.inside.limit c.args.n (gaps_of (slots_in c.self.inside.work c.self.inside.kept.value)) c.self.inside.end c.grow.new.end c.grow.result (rw c.current.ensures at (rw c.deref.ensures at c.in-None.ensures)) c.grow.ensures.grows))
 
 pub returns-in-None-clause-changes : goal.returns-in-None-clause-changes
+unfolding IsThreaded
 returns-in-None-clause-changes g c =
     subst (λ (s : HeapState). ChangesHeap g.S.ReadBytes.is_sound g.S.ReadBytes.image g.S.ReadBytes.state g.S.ReadBytes.waiting [] 9 (IsTakeRefusal (IsUntold (g.S.ReadBytes.image c.args.space.now))) s (state_of (slots_in c.self.inside.work c.self.inside.kept.value) c.grow.new.end (space_of c.self.inside.kept.value c.self.inside.kept_end) c.self.inside.limit) c.args.space.now c.grow.new.space c.grow.result) c.self.view_is
     (grown_leaves g.S.ReadBytes.is_sound g.S.ReadBytes.image g.S.ReadBytes.state g.S.ReadBytes.waiting (slots_in c.self.inside.work c.self.inside.kept.value) c.self.inside.end (space_of c.self.inside.kept.value c.self.inside.kept_end) c.self.inside.limit c.args.space.now c.grow.new.space c.self.invariant.now_is c.grow.ensures.sound
@@ -66,6 +67,7 @@ returns-in-Some-clause-covers g c =
     (taken_takes c.args.n c.in-Some.i c.self.inside.limit c.self.inside.end (slots_in c.self.inside.work c.self.inside.kept.value) (slots_in c.take_front.new.work c.self.inside.kept.value) (g.S.ReadBytes.image c.args.space.now) (g.S.ReadBytes.image c.take_front.new.space) c.take_front.result (rw c.current.ensures at (rw c.deref.ensures at c.in-Some.ensures)) c.take_front.ensures.place c.take_front.ensures.taken c.take_front.ensures.stays (g.S.ReadBytes.state c.args.space.now).faults (g.S.ReadBytes.state c.take_front.new.space).faults (IsUntold (g.S.ReadBytes.image c.args.space.now)) c.take_front.ensures.cause))
 
 pub returns-in-Some-clause-changes : goal.returns-in-Some-clause-changes
+unfolding IsThreaded
 returns-in-Some-clause-changes g c =
     subst (λ (s : HeapState). ChangesHeap g.S.ReadBytes.is_sound g.S.ReadBytes.image g.S.ReadBytes.state g.S.ReadBytes.waiting [] 9 (IsTakeRefusal (IsUntold (g.S.ReadBytes.image c.args.space.now))) s (state_of (slots_in c.take_front.new.work c.self.inside.kept.value) c.self.inside.end (space_of c.self.inside.kept.value c.self.inside.kept_end) c.self.inside.limit) c.args.space.now c.take_front.new.space c.take_front.result) c.self.view_is
     (taken_leaves g.S.ReadBytes.is_sound g.S.ReadBytes.image g.S.ReadBytes.state g.S.ReadBytes.waiting (slots_in c.self.inside.work c.self.inside.kept.value) (slots_in c.take_front.new.work c.self.inside.kept.value) c.self.inside.end (space_of c.self.inside.kept.value c.self.inside.kept_end) c.self.inside.limit c.args.n c.in-Some.i c.args.space.now c.take_front.new.space c.take_front.result c.requires.some.0 c.self.invariant.now_is c.take_front.ensures.sound
@@ -80,3 +82,7 @@ invariant_of-self-in-Some g c = record {
   some = c.self.invariant.some;
   most = c.self.invariant.most;
 }
+
+pub take_front-requires-clause-threads : goal.take_front-requires-clause-threads
+unfolding IsThreaded
+take_front-requires-clause-threads g c = subst (λ (s : HeapState). IfSome (g.S.ReadBytes.image c.args.space.now) (IsThreaded s.work)) (sym c.self.view_is) c.requires.threads
