@@ -16,15 +16,20 @@ use Rattle.adf_model.specs.OneFile.{StandsIn}
 use Rattle.adf_model.specs.Calls.{Group, file_of, file_of_group, group_after, tests_at_entry, resolved, resolve, edit_reached, group_step}
 use Rattle.adf_model.specs.Steps.{HasCauseOf, own_file, IsFileRefusal}
 use Rattle.adf_model.specs.Causes.{OnlyAsks, ComesFromFiles, is_of_links, is_of_kind, may_refuse_edit}
-use Rattle.adf_model.proofs.Basics.{not_true}
+use Rattle.adf_model.proofs.Basics.{not_true, same_Some}
 use Rattle.adf_model.proofs.Following.OneFileLaws.{reached_as_many, in_its_file}
-use Rattle.adf_follow.specs.Groups.{FileWork, Pending, at_rest, with_there, led_from, led_to, AreOpen, IsToldBy, IsStepRefusal, IsEditRefusal, IsRefusedAnyway, LeavesUndone, IsDoneAnyway}
+use Rattle.adf_follow.specs.Groups.{FileWork, Pending, at_rest, with_there, led_from, led_to, AreOpen, IsEditTold, IsToldBy, IsStepRefusal, IsEditRefusal, IsRefusedAnyway, LeavesUndone, IsDoneAnyway}
 use Rattle.adf_follow.specs.Looking.{IsToldIn, IsWalked, HasStepCause, as_is}
 use Rattle.adf_follow.proofs.Looks.{told_in_on, fault_before}
 use Rattle.adf_follow.proofs.Entered.{Passed, Fails, is_entry_error, passes_refused, passes_checked, fails_checked, entry_error, refused_enters, passed_enters, files_pass}
 use Rattle.adf_follow.proofs.DoneEdit.{all_there, first_of, first_has, leads_there, itself, told_there}
 
 -- ---- where files are told
+
+-- an edit of the very nodes that it names, which meets no link in its file
+pub record IsOwnEdit (files : Files) (number : ℕ) (edit : Edit) (there : Option NodeId) : Type 0 where
+  pub same : with_there edit there ≡ edit
+  pub no_link : (opened : Open) → open_at files number ≡ Some opened → file_step opened.writable opened.tree edit ≢ Err LinkMissing
 
 module _ (files : Files) (was : ℕ → FileWork) (group : Option ℕ) (edit : Edit) where
   -- a refusal of the trees is none of the others
@@ -105,28 +110,25 @@ module _ (files : Files) (was : ℕ → FileWork) (group : Option ℕ) (edit : E
           by_open g (Some opened) some = ap (λ (b : Bool). checked ((b, OtherFile) ∷ (not opened.writable, ReadOnly) ∷ []) (and_then (apply opened.tree reached) (λ tree. Ok (group_after g number opened reached tree)))) elsewhere
 
       -- the file refuses the step
-      pub step_refuses : (group ≡ None) ⊎ (group ≡ Some number) → StandsIn number reached → AreTrees files ⊎ (with_there edit there ≡ edit) → (error : AdfError) → error ≢ LinkMissing → IsStepRefusal files was number reached error → IsEditRefusal files was group edit error
-      step_refuses own stands trees error no_link h = by_error error no_link h.opened h.here h.why
+      pub step_refuses : (group ≡ None) ⊎ (group ≡ Some number) → StandsIn number reached → AreTrees files ⊎ IsOwnEdit files number edit there → (error : AdfError) → IsStepRefusal files was number reached error → IsEditRefusal files was group edit error
+      step_refuses own stands trees error h = by_error error h.opened h.here h.why
         where
           -- the group does what the file does
-          as_many : (g : Group) (opened : Open) (x : AdfError) → g.files ≡ files → g.file ≡ group → open_at files number ≡ Some opened → x ≢ LinkMissing → file_step opened.writable opened.tree reached ≡ Err x
+          as_many : (g : Group) (opened : Open) → g.files ≡ files → g.file ≡ group → open_at files number ≡ Some opened
               → group_step g edit ≡ and_then (file_step opened.writable opened.tree reached) (λ tree. Ok (group_after g number opened reached tree))
-          as_many g opened x same of_group here plain why =
+          as_many g opened same of_group here =
               let there_open = subst (λ (f : Files). open_at f number ≡ Some opened) (sym same) here in
               let of_file : (g.file ≡ None) ⊎ (g.file ≡ Some number) = elim own [ inl none ↦ inl (of_group ∙ none) | inr some ↦ inr (of_group ∙ some) ] in
               elim trees [
                 | inl all ↦ reached_as_many g number opened edit reached (subst AreTrees (sym same) all) (subst (λ (f : Files). first_refusal (tests_at_entry f (named_nodes edit)) ≡ None) (sym same) (passes_refused (tests_at_entry files (named_nodes edit)) entry))
                     (subst (λ (f : Files). resolve f edit ≡ Ok reached) (sym same) (leads_there files edit there led)) there_open of_file stands
-                | inr is ↦ ap (group_step g) (sym is) ∙ in_its_file g number opened reached there_open of_file stands (λ e. plain (same_error x LinkMissing (sym why ∙ e)))
+                | inr is ↦ ap (group_step g) (sym is.same) ∙ in_its_file g number opened reached there_open of_file stands (λ e. is.no_link opened here (ap (file_step opened.writable opened.tree) (sym is.same) ∙ e))
               ]
-            where
-              same_error : (one other : AdfError) → ◌≡◌ {A = Result Tree AdfError} (Err one) (Err other) → one ≡ other
-              same_error one other e = cc
 
-          by_error : (x : AdfError) → x ≢ LinkMissing → (opened : Open) → open_at files number ≡ Some opened → IsFileRefusal false opened.writable opened.limit opened.tree (was number).placement reached x → IsEditRefusal files was group edit x
-          by_error Memory plain opened here why = tt
-          by_error ReadFault plain opened here why = passes_refused (tests_at_entry files (named_nodes edit)) entry
-          by_error (Full asked end) plain opened here why = record {
+          by_error : (x : AdfError) (opened : Open) → open_at files number ≡ Some opened → IsFileRefusal false opened.writable opened.limit opened.tree (was number).placement reached x → IsEditRefusal files was group edit x
+          by_error Memory opened here why = tt
+          by_error ReadFault opened here why = passes_refused (tests_at_entry files (named_nodes edit)) entry
+          by_error (Full asked end) opened here why = record {
             number = number;
             reached = reached;
             opened = opened;
@@ -139,16 +141,24 @@ module _ (files : Files) (was : ℕ → FileWork) (group : Option ℕ) (edit : E
             made = why.1.1;
             over = why.1.2;
           }
-          by_error LinkMissing plain opened here why = absurd (plain refl)
-          by_error x plain opened here why = λ g same of_group. as_many g opened x same of_group here plain why ∙ ap (λ r. and_then r (λ (tree : Tree). Ok (group_after g number opened reached tree))) why
+          by_error x opened here why = λ g same of_group. as_many g opened same of_group here ∙ ap (λ r. and_then r (λ (tree : Tree). Ok (group_after g number opened reached tree))) why
 
 -- where an edit is told, what is open are trees, or it is one of its own nodes
-pub trees_or_own : (files : Files) (before : Devices) (edit : Edit) → Passed (tests_at_entry files (named_nodes edit)) → (there : Option NodeId) → led_to files edit ≡ Ok there → IsToldBy files before edit → AreTrees files ⊎ (with_there edit there ≡ edit)
-trees_or_own files before edit entry there led told = elim told [ inl all ↦ inl all.1 | inr one ↦ inr (itself files before edit entry one there led) ]
+pub trees_or_own : (files : Files) (before : Devices) (edit : Edit) → Passed (tests_at_entry files (named_nodes edit)) → (there : Option NodeId) (number : ℕ) → led_to files edit ≡ Ok there → StandsIn number (with_there edit there) → IsToldBy files before edit
+    → AreTrees files ⊎ IsOwnEdit files number edit there
+trees_or_own files before edit entry there number led stands told = elim told [ inl all ↦ inl all.1 | inr one ↦ inr (own one) ]
+  where
+    own : IsEditTold files before edit → IsOwnEdit files number edit there
+    own one = record {
+      same = same;
+      no_link = λ opened here e. one.no_link (ap (λ (o : Open). file_step o.writable o.tree edit) (same_Some one.opened opened (sym one.live ∙ ap (open_at files) at ∙ here)) ∙ e);
+    }
+      where
+        same : with_there edit there ≡ edit
+        same = itself files before edit entry one there led
 
--- no step is refused for a link
-pub step_plain : (files : Files) (edit : Edit) (number : ℕ) (before now : Devices) (error : AdfError) → HasStepCause files edit number before now error → error ≢ LinkMissing
-step_plain files edit number before now error h e = subst (HasStepCause files edit number before now) e h
+        at : one.number ≡ number
+        at = sym (first_has (λ (n : NodeId). n.file ≡ one.number) edit one.stands) ∙ first_has (λ (n : NodeId). n.file ≡ number) edit (subst (StandsIn number) same stands)
 
 -- ---- the file of an edit
 

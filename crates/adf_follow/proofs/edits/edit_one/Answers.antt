@@ -4,7 +4,7 @@ use Rattle.adf_model.specs.Calls.{tests_at_entry}
 use Rattle.adf_follow.specs.Groups.{Pending}
 use Rattle.adf_follow.proofs.Entered.{passes_refused}
 use Rattle.adf_follow.proofs.DoneEdit.{all_there, entered_open, open_there, one_done}
-use Rattle.adf_follow.proofs.RefusedEdit.{entry_refuses, link_refuses, other_refuses, step_refuses, trees_or_own, step_plain, told_refusal, group_own, group_opens, entry_anyway, link_anyway, other_anyway, step_anyway, step_undone, done_anyway}
+use Rattle.adf_follow.proofs.RefusedEdit.{entry_refuses, link_refuses, other_refuses, step_refuses, trees_or_own, told_refusal, group_own, group_opens, entry_anyway, link_anyway, other_anyway, step_anyway, step_undone, done_anyway}
 use Rattle.adf_follow.proofs.edits.edit_one.Goals as goal
 
 pub lead-requires-clause-entered : goal.lead-requires-clause-entered
@@ -67,7 +67,7 @@ returns-in-Err-step-clause-refused g c = λ told.
     let led = c.in-Ok-lead.ensures.found told in
     let stands = all_there c.group_file-number.result _ (sym c.is_elsewhere.ensures ∙ c.if-is_elsewhere.false) in
     step_refuses _ _ c.args.group c.args.edit.now c.in-Ok.ensures c.in-Ok-lead.there c.group_file-number.result led (group_own c.args.group _ c.group_file-number.result c.group_file-number.ensures) stands
-    (trees_or_own _ _ c.args.edit.now c.in-Ok.ensures c.in-Ok-lead.there led told) c.in-Err-step.error (step_plain _ c.args.edit.now c.group_file-number.result _ _ c.in-Err-step.error c.in-Err-step.ensures.cause)
+    (trees_or_own _ _ c.args.edit.now c.in-Ok.ensures c.in-Ok-lead.there c.group_file-number.result led stands told) c.in-Err-step.error
     (told_refusal _ _ _ _ _ _ c.args.edit.now c.in-Ok.ensures c.in-Ok-lead.there c.group_file-number.result c.in-Err-step.error c.lead.ensures.leaves (ap (λ (p : Pending). p.work) c.lead.ensures.pending) led stands c.in-Err-step.ensures.refused told)
 
 pub returns-in-Err-step-clause-cause : goal.returns-in-Err-step-clause-cause
