@@ -24,3 +24,4 @@ pub mod ReadLaws
 pub mod Waiting
 pub mod Beside
 pub mod CallLaws
+pub mod Chunks

@@ -22,6 +22,7 @@ use Rattle.adf_model.specs.Edits.{file_step, with_new, new_node}
 use Rattle.adf_model.proofs.Creation.CreatedNodes.{there_inside}
 use Rattle.adf_model.proofs.Writes.ManyWrites.{less_or}
 use Rattle.file_heap.specs.Heap.{FreeSpace, IsThreaded}
+use Rattle.file_heap.proofs.Chunks.{threads_chunks}
 use Rattle.tree_laws.specs.MidEdit.{IsMidEdit, Puts}
 use Rattle.tree_laws.specs.Spared.{IsEditWhole}
 use Rattle.tree_laws.specs.TreeFacts.{IsJoined}
@@ -59,7 +60,7 @@ mid_text ranges p q old b c tree now taken limit n place text was is same u t =
     t.1.order
     (subst (λ (h : Heap). MovesEnd h.end is.heap.end b t.0) (sym same) t.1.end)
     (subst (λ (h : Heap). KeepsFillers h.gaps is.heap.gaps b t.0) (sym same) t.1.fillers)
-    t.1.threads.threads
+    (threads_chunks is t.0 t.1.threads)
     (subst (λ (h : Heap). h.end ≤ is.heap.end) (sym same) (grows limit n place was is b t.0 t.1)))
     t.2.only (λ k some. omega (arith, some))
 

@@ -13,6 +13,7 @@ use Rattle.adf_format.specs.Placement.{Heap, extent}
 use Rattle.cg_io.specs.Blocks.{Both}
 use Rattle.field_access.specs.Fields.{range}
 use Rattle.file_heap.specs.Heap.{FreeSpace, IsThreaded}
+use Rattle.file_heap.proofs.Chunks.{threads_chunks}
 use Rattle.node_reads.specs.declared.header.ChildTable.{ChildTable}
 use Rattle.tree_laws.specs.MidEdit.{GivesOnly, GivesAll}
 use Rattle.tree_edits.specs.Joined.{GivesTable, extents_of_table}
@@ -38,7 +39,7 @@ module _ (table : ChildTable) (was now : FreeSpace) (some : nat_lt 0 table.entri
         };
         end = subst (λ (h : Heap). MovesEnd was.heap.end h.end old new) gives end;
         fillers = subst (λ (h : Heap). KeepsFillers was.heap.gaps h.gaps old new) gives fillers;
-        threads = subst (λ (h : Heap). ThreadsFreeChunks new h.gaps) gives threads.threads;
+        threads = subst (λ (h : Heap). ThreadsFreeChunks new h.gaps) gives (threads_chunks now new threads);
       } in
       record {
         gives = subst (λ es. GivesAll es was.heap old new) (sym one) (new, only, refl);

@@ -23,6 +23,7 @@ use Rattle.adf_model.specs.declared.tree.NodeId.{NodeId}
 use Rattle.adf_model.specs.Edits.{file_step, with_new, new_link}
 use Rattle.adf_model.proofs.Writes.ManyWrites.{less_or}
 use Rattle.file_heap.specs.Heap.{FreeSpace, IsThreaded}
+use Rattle.file_heap.proofs.Chunks.{threads_chunks}
 use Rattle.tree_laws.specs.EditsPlaced.{LinkStands}
 use Rattle.tree_laws.specs.MidEdit.{IsMidEdit, Puts}
 use Rattle.tree_laws.specs.NodeJoin.{with_parts_of_new, link_parts, link_record}
@@ -63,7 +64,7 @@ mid_taken ranges p q old b c now taken limit n place was is same u t =
     t.order
     (subst (λ (h : Heap). MovesEnd h.end is.heap.end b c) (sym same) t.end)
     (subst (λ (h : Heap). KeepsFillers h.gaps is.heap.gaps b c) (sym same) t.fillers)
-    t.threads.threads
+    (threads_chunks is c t.threads)
     (subst (λ (h : Heap). h.end ≤ is.heap.end) (sym same) (grows limit n place was is b c t))
 
 -- a text goes on standing where bytes apart from it are written
