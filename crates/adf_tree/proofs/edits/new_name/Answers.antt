@@ -1,0 +1,7 @@
+use Rattle.adf_tree.proofs.EditsAnswer.{name_refused}
+use Rattle.adf_tree.proofs.edits.new_name.Goals as goal
+
+pub returns-in-Err : goal.returns-in-Err
+returns-in-Err g c =
+    name_refused g.S.ReadBytes.is_sound g.S.ReadBytes.image g.S.ReadBytes.state g.S.ReadBytes.waiting c.args.core.now c.args.node c.args.name.now c.args.space.now c.rename.new.space c.requires.near
+    c.in-Err.error c.in-Err.ensures.refused c.in-Err.ensures.writes

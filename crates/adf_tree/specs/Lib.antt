@@ -1,0 +1,5 @@
+pub mod Reached
+pub mod Files
+pub mod Commits
+pub mod Steps
+pub mod Headers

@@ -1,0 +1,157 @@
+//! Each edit, over any space and what is kept of a file in memory.
+
+ghost use Rattle.std.specs.Prelude.{◌≡◌, IfSome};
+ghost use Rattle.adf_format.specs.Tree.{Tree};
+ghost use Rattle.adf_format.specs.Placement.{Placement};
+ghost use Rattle.adf_tree.specs.Reached.{or_reached, with_reached};
+ghost use Rattle.adf_model.specs.declared.tree.Edit.{Edit};
+ghost use Rattle.tree_edits.specs.Edits.{memory_of};
+ghost use Rattle.tree_edits.specs.Rows.{AreNear, Means};
+ghost use Rattle.adf_tree.specs.Steps.{EditAnswers, IsBuilt};
+
+use adf_model::{AdfError, Edit, NodeId};
+use cg_io::Space;
+use std::alloc::Global;
+use tree_edits::{Core, create, link, rename, set_label};
+
+// The node that was reached, where one was.
+fn or_reached(node: NodeId, there: Option<NodeId>) -> NodeId
+    ensures { result ≡ or_reached node there }
+{
+    match there {
+        Some(there) => there,
+        None => node,
+    }
+}
+
+fn new_label<S: Space>(
+    space: &mut S,
+    core: &mut Core,
+    node: NodeId,
+    label: &[u8],
+) -> Result<Option<u64>, AdfError>
+    requires sound { S.is_sound space.old }
+    requires near { AreNear core.old.wide core.old.rows.items }
+    ensures { EditAnswers S.is_sound S.image S.state S.waiting (Edit.SetLabel node label.now)
+        core.old core.new space.old space.new result }
+{
+    let _row = match core.rows.get(node.serial) {
+        Some(row) => row,
+        None => return Err(AdfError::NoSuchNode),
+    };
+    match set_label(space, core, node, label) {
+        Ok(()) => Ok(None),
+        Err(error) => Err(error),
+    }
+}
+
+fn new_name<S: Space>(
+    space: &mut S,
+    core: &mut Core,
+    node: NodeId,
+    name: &[u8],
+) -> Result<Option<u64>, AdfError>
+    requires sound { S.is_sound space.old }
+    requires near { AreNear core.old.wide core.old.rows.items }
+    ensures { EditAnswers S.is_sound S.image S.state S.waiting (Edit.Rename node name.now)
+        core.old core.new space.old space.new result }
+{
+    match rename(space, core, node, name) {
+        Ok(()) => Ok(None),
+        Err(error) => Err(error),
+    }
+}
+
+fn new_node<S: Space>(
+    space: &mut S,
+    core: &mut Core,
+    at: NodeId,
+    name: &[u8],
+    label: &[u8],
+) -> Result<Option<u64>, AdfError>
+    requires sound { S.is_sound space.old }
+    requires near { AreNear core.old.wide core.old.rows.items }
+    requires means { IfSome (S.image space.old)
+        (λ bytes. (tree : Tree) × (p : Placement) × Means bytes tree p (memory_of core.old)) }
+    ensures { EditAnswers S.is_sound S.image S.state S.waiting (Edit.Create at name.now label.now)
+        core.old core.new space.old space.new result }
+{
+    match create(space, core, at, name, label) {
+        Ok(serial) => Ok(Some(serial)),
+        Err(error) => Err(error),
+    }
+}
+
+fn new_link<S: Space>(
+    alloc: Global,
+    space: &mut S,
+    core: &mut Core,
+    at: NodeId,
+    name: &[u8],
+    file: &[u8],
+    path: &[u8],
+) -> Result<Option<u64>, AdfError>
+    requires sound { S.is_sound space.old }
+    requires near { AreNear core.old.wide core.old.rows.items }
+    requires means { IfSome (S.image space.old)
+        (λ bytes. (tree : Tree) × (p : Placement) × Means bytes tree p (memory_of core.old)) }
+    ensures { EditAnswers S.is_sound S.image S.state S.waiting
+        (Edit.Link at name.now file.now path.now) core.old core.new space.old space.new result }
+{
+    match link(alloc, space, core, at, name, file, path) {
+        Ok(serial) => Ok(Some(serial)),
+        Err(error) => Err(error),
+    }
+}
+
+/// Does one edit, of the node that was reached where it goes through links: the serial that it drew.
+///
+/// After a refusal the caller abandons what was written to the space, and undoes what is in memory.
+pub(crate) fn do_edit<S: Space>(
+    alloc: Global,
+    space: &mut S,
+    core: &mut Core,
+    edit: &Edit,
+    there: Option<NodeId>,
+) -> Result<Option<u64>, AdfError>
+    requires sound { S.is_sound space.old }
+    requires near { AreNear core.old.wide core.old.rows.items }
+    requires means { IfSome (S.image space.old)
+        (λ bytes. (tree : Tree) × (p : Placement) × Means bytes tree p (memory_of core.old)) }
+    requires built { IsBuilt edit.now }
+    ensures { EditAnswers S.is_sound S.image S.state S.waiting (with_reached edit.now there)
+        core.old core.new space.old space.new result }
+{
+    match edit {
+        Edit::Create {
+            parent,
+            name,
+            label,
+        } => new_node(
+            space,
+            core,
+            or_reached(*parent, there),
+            name.items(),
+            label.items(),
+        ),
+        Edit::Rename { node, name } => new_name(space, core, *node, name.items()),
+        Edit::SetLabel { node, label } => {
+            new_label(space, core, or_reached(*node, there), label.items())
+        }
+        Edit::Link {
+            parent,
+            name,
+            file,
+            path,
+        } => new_link(
+            alloc,
+            space,
+            core,
+            or_reached(*parent, there),
+            name.items(),
+            file.items(),
+            path.items(),
+        ),
+        _ => unreachable!(),
+    }
+}

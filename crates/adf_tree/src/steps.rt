@@ -1,0 +1,67 @@
+//! Edits in work.
+
+ghost use Rattle.adf_tree.specs.Reached.{with_reached};
+ghost use Rattle.adf_tree.specs.Files.{IsWorking, state_of};
+ghost use Rattle.adf_tree.specs.Steps.{IsBuilt, StepEnds};
+
+use crate::edits::do_edit;
+use crate::file::AdfFile;
+use adf_model::{AdfError, Edit, NodeId};
+use cg_io::Device;
+use tree_asks::Hints;
+use tree_edits::Rows;
+
+// Notes where the header of a new node stands. A hint that finds no memory is missed, which costs time alone.
+fn add_hint(hints: &mut Option<Hints>, rows: &Rows, serial: Option<u64>) {
+    let serial = match serial {
+        Some(serial) => serial,
+        None => return,
+    };
+    let row = match rows.get(serial) {
+        Some(row) => row,
+        None => return,
+    };
+    if let Some(hints) = hints {
+        let _ = hints.add(row.place, serial);
+    }
+}
+
+impl<D: Device> AdfFile<D> {
+    /// Does one edit on the tree in work: the serial that it drew. It waits until a commit or an undo.
+    ///
+    /// Where it is refused, all edits in work are dropped.
+    pub fn step(&mut self, edit: &Edit) -> Result<Option<u64>, AdfError>
+        requires sound { IsWorking D.state self.old }
+        requires built { IsBuilt edit.now }
+        ensures sound { IsWorking D.state self.new }
+        ensures ends { StepEnds edit.now result (state_of D.state self.old)
+            (state_of D.state self.new) }
+    {
+        self.step_at(edit, None)
+    }
+
+    /// Does one edit of the node that was reached, where it goes through links.
+    pub fn step_at(&mut self, edit: &Edit, there: Option<NodeId>) -> Result<Option<u64>, AdfError>
+        requires sound { IsWorking D.state self.old }
+        requires built { IsBuilt edit.now }
+        ensures sound { IsWorking D.state self.new }
+        ensures ends { StepEnds (with_reached edit.now there) result (state_of D.state self.old)
+            (state_of D.state self.new) }
+    {
+        if self.broken {
+            return Err(AdfError::Broken);
+        }
+        match do_edit(self.alloc, &mut self.draft, &mut self.core, edit, there) {
+            Ok(serial) => {
+                self.steps = self.steps.and(edit, &there);
+                add_hint(&mut self.hints, &self.core.rows, serial);
+                Ok(serial)
+            }
+            Err(error) => {
+                self.draft.abandon();
+                self.drop_steps();
+                Err(error)
+            }
+        }
+    }
+}
