@@ -5,3 +5,4 @@ pub mod HeaderRules
 pub mod HeaderReads
 pub mod ReachedEdits
 pub mod EditsAnswer
+pub mod Grouping

@@ -3,3 +3,4 @@ pub mod Files
 pub mod Commits
 pub mod Steps
 pub mod Headers
+pub mod Groups

@@ -4,6 +4,7 @@
 
 mod edits;
 mod file;
+mod groups;
 mod headers;
 mod steps;
 
