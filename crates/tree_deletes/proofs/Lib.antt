@@ -5,3 +5,5 @@ pub mod RuleLaws
 pub mod Parts
 pub mod Walks
 pub mod Erasing
+pub mod Giving
+pub mod GiftRounds

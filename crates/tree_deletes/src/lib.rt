@@ -5,4 +5,5 @@
 
 mod doomed;
 mod erase;
+mod gifts;
 mod subtree;
