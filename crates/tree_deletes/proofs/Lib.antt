@@ -7,3 +7,7 @@ pub mod Walks
 pub mod Erasing
 pub mod Giving
 pub mod GiftRounds
+pub mod TableErased
+pub mod DeleteWhole
+pub mod Deleting
+pub mod Done

@@ -1,3 +1,4 @@
 pub mod Erased
 pub mod Doomed
 pub mod Given
+pub mod Deleted

@@ -3,7 +3,10 @@
 
 #![tactic(auto)]
 
+mod deletion;
 mod doomed;
 mod erase;
 mod gifts;
 mod subtree;
+
+pub use deletion::delete;
