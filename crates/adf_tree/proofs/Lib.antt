@@ -1,6 +1,11 @@
 pub mod Starting
+pub mod OpenedRows
+pub mod OpenedTable
+pub mod OpenedFile
+pub mod OpenedReads
 pub mod Stepping
 pub mod Committing
+pub mod FreshFile
 pub mod HeaderRules
 pub mod HeaderReads
 pub mod ReachedEdits

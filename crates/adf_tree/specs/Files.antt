@@ -1,20 +1,12 @@
 -- What an open file means, what stands between its calls, and what its calls answer.
-use Rattle.std.specs.Prelude.{◌≡◌, ℕ, ◌+◌, ◌≤◌, Bool, true, false, List, [], map, length, Option, Some, None, IfSome, ⊤}
-use Rattle.std.specs.Option.{option_map}
-use Rattle.adf_format.specs.Fresh.{fresh_block, fresh_placement}
-use Rattle.adf_format.specs.Tree.{Tree, IsNumbered, fresh_tree}
+use Rattle.std.specs.Prelude.{◌≡◌, ℕ, ◌≤◌, Bool, true, false, List, [], map, Option, IfSome}
+use Rattle.adf_format.specs.Tree.{Tree}
 use Rattle.adf_format.specs.Placement.{Placement}
-use Rattle.adf_model.specs.Counts.{DeviceState, NoCountFell, OnlyReads}
+use Rattle.adf_model.specs.Counts.{DeviceState}
 use Rattle.adf_model.specs.Edits.{Work}
 use Rattle.adf_model.specs.FileGroup.{done_by}
 use Rattle.adf_model.specs.Placing.{group_cost}
-use Rattle.adf_model.specs.Slots.{Device, Slot}
-use Rattle.adf_model.specs.Slots.Slot.{Raw}
-use Rattle.adf_model.specs.Steps.{Opening, IsOpenRefusal}
-use Rattle.adf_model.specs.declared.error.AdfError.{AdfError}
-use Rattle.adf_model.specs.declared.error.AdfError.TheVariants as error
-use Rattle.adf_model.specs.declared.mode.Mode.{Mode}
-use Rattle.adf_model.specs.declared.mode.Mode.TheVariants as mode
+use Rattle.adf_model.specs.Slots.{Device}
 use Rattle.adf_model.specs.declared.tree.Edit.{Edit}
 use Rattle.adf_model.specs.declared.tree.NodeId.{NodeId}
 use Rattle.adf_tree.specs.Reached.{with_reached}
@@ -111,46 +103,8 @@ pub record IsFile {D : Type 0} (state : D → DeviceState) (file : AdfFile D) : 
   pub working : IsWorking state file
   pub none : steps_in file ≡ []
 
--- ---- openings
-
--- a file that was just opened
-pub record Starts (writable : Bool) (limit : ℕ) (file : FileState) : Type 0 where
-  pub writable_is : file.core.writable ≡ writable
-  pub limit_is : file.core.heap.limit ≡ limit
-  pub steps : file.steps ≡ []
-  pub sound : file.broken ≡ false
-
--- as it stands: nothing is written, and its nodes are numbered in tree order
-pub record OpensStored (writable : Bool) (limit : ℕ) (old : DeviceState) (file : FileState) : Type 0 where
-  pub starts : Starts writable limit file
-  pub device : OnlyReads old file.device
-  pub tree : IfSome file.device.held (λ image. (tree : Tree) × (p : Placement) × Means image tree p (memory_of file.core) × IsNumbered tree)
-
--- as a fresh file, by one write at most, of a device that was empty
-pub record OpensFresh (wide : Bool) (limit : ℕ) (old : DeviceState) (file : FileState) : Type 0 where
-  pub starts : Starts true limit file
-  pub empty : IfSome old.held (λ bytes. bytes ≡ [])
-  pub held : file.device.held ≡ option_map (λ (none : List ℕ). fresh_block wide) old.held
-  pub counts : NoCountFell old file.device
-  pub writes : file.device.writes ≤ old.writes + 1
-  pub tree : IfSome file.device.held (λ image. Means image (fresh_tree wide) (fresh_placement wide) (memory_of file.core))
-
-abbrev pub IsOpened : Mode → ℕ → DeviceState → FileState → Type 0
-IsOpened mode.New limit old file = OpensFresh false limit old file
-IsOpened mode.NewWide limit old file = OpensFresh true limit old file
-IsOpened mode.ReadWrite limit old file = OpensStored true limit old file
-IsOpened mode.ReadOnly limit old file = OpensStored false limit old file
+-- ---- as the model has it
 
 -- a device of the model by what is told of it; where its parts stand does not matter
 abbrev pub device_with : Placement → DeviceState → Device
 device_with p state = record { held = state.held; placement = p; faults = state.faults; lost = state.lost; reads = state.reads; writes = state.writes }
-
--- what a refused opening leaves: only a write of the fresh bytes that failed has written, and once
-abbrev pub RefusedLeaves : AdfError → DeviceState → DeviceState → Type 0
-RefusedLeaves error.WriteFault old new = NoCountFell old new × (new.writes ≤ old.writes + 1)
-RefusedLeaves error old new = OnlyReads old new
-
--- a refused opening has its cause, as the model has it for a file of any bytes
-pub record IsRefused (opening : Opening) (old new : DeviceState) (error : AdfError) : Type 0 where
-  pub cause : (p q : Placement) → IsOpenRefusal opening Raw (device_with p old) (device_with q new) error
-  pub leaves : RefusedLeaves error old new

@@ -4,8 +4,10 @@
 
 mod edits;
 mod file;
+mod fresh;
 mod groups;
 mod headers;
+mod opening;
 mod steps;
 
 pub use file::{AdfFile, OpenRefused};
