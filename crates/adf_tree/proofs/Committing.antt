@@ -1,11 +1,11 @@
 -- What a commit leaves of bytes and counts.
-use Rattle.std.proofs.Common.{◌≡◌, ◌⊎◌, inl, inr, ℕ, refl, sym, ◌∙◌, ap, subst, arith, List, [], ◌∷◌, length, ◌+◌, ◌≤◌, Bool, true, false}
+use Rattle.std.proofs.Common.{◌≡◌, inl, inr, ℕ, refl, sym, ap, subst, arith, List, [], ◌∷◌, ◌+◌, ◌≤◌, true, false}
 use Rattle.std.specs.Prelude.{Option, Some, None, IsSome}
 use Rattle.std.specs.Map.{keys_of}
 use Rattle.adf_model.specs.Counts.{DeviceState, NoCountFell, WriteFails, raised, Rose}
 use Rattle.adf_model.proofs.Basics.{not_true}
 use Rattle.block_draft.specs.Changes.{image_of, with_changes, AreChanges, IsPartWritten}
-use Rattle.cg_io.specs.Device.{Tears, with_block}
+use Rattle.cg_io.specs.Device.{with_block}
 use Rattle.cg_io.specs.Waits.{how_many}
 use Rattle.torn_laws.proofs.PartTorn.{part_is_torn, part_is_counted}
 use Rattle.adf_tree.specs.Commits.{Breaks, TearsImage}

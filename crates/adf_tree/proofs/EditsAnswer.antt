@@ -1,20 +1,19 @@
 -- What each edit over a space answers, as a step of an open file.
-use Rattle.std.proofs.Common.{◌≡◌, ◌⊎◌, inl, inr, ℕ, refl, sym, ◌∙◌, ap, subst, arith, List, [], ◌∷◌, length, ◌+◌, ◌*◌, ◌/◌, ◌≤◌, Bool, true, false, cond, not, ◌||◌}
+use Rattle.std.proofs.Common.{◌≡◌, inl, inr, ℕ, refl, sym, ◌∙◌, ap, subst, arith, List, [], ◌∷◌, length, ◌+◌, ◌*◌, ◌/◌, ◌≤◌, Bool, true, false, cond, not, ◌||◌}
 use Rattle.std.specs.List.{list_any}
-use Rattle.std.specs.Prelude.{Option, Some, None, is_some, nat_lt, if◌then◌else◌, IfSome, IsSome, IsTrue, OnOk, OnErr, IfOk, IfErr, Result, Ok, Err}
-use Rattle.adf_format.specs.Checks.{Row as Check, Fault, first_broken}
+use Rattle.std.specs.Prelude.{Option, Some, None, is_some, nat_lt, if◌then◌else◌, IfSome, IsSome, Ok, Err}
+use Rattle.adf_format.specs.Checks.{Fault, first_broken}
 use Rattle.adf_format.specs.HeapRule.{chunk_length_for, grown_entries}
 use Rattle.adf_format.specs.Links.{link_text}
 use Rattle.adf_format.specs.Parts.{node_length, table_length}
 use Rattle.adf_format.specs.Placement.{Placement}
 use Rattle.adf_format.specs.RuleNumbers.{IsRule}
 use Rattle.adf_format.specs.Tree.{Tree, Node, node_at, is_live, children_at}
-use Rattle.adf_model.specs.Counts.{DeviceState, OnlyReads, Rose}
+use Rattle.adf_model.specs.Counts.{DeviceState, OnlyReads}
 use Rattle.adf_model.specs.Edits.{file_step, named_nodes, resolve_by, apply_where}
 use Rattle.adf_model.specs.Follow.{stay}
 use Rattle.adf_model.specs.Need.{cost}
 use Rattle.adf_model.specs.Placing.{chunk_number}
-use Rattle.adf_model.specs.Steps.{IsFileRefusal}
 use Rattle.adf_model.specs.Tests.{checked, and_then}
 use Rattle.adf_model.specs.declared.error.AdfError.{AdfError}
 use Rattle.adf_model.specs.declared.error.AdfError.TheVariants as error
@@ -25,9 +24,8 @@ use Rattle.cg_io.specs.Answers.{AnswersWrite}
 use Rattle.cg_io.specs.Blocks.{Both, ReadsFew}
 use Rattle.cg_io.specs.Waits.{how_many}
 use Rattle.node_reads.specs.declared.header.ChildTable.{ChildTable}
-use Rattle.node_reads.specs.Reads.{Breaks}
 use Rattle.node_reads.specs.Entries.{pieces_of}
-use Rattle.node_reads.specs.Headers.{header_rows, table_rows}
+use Rattle.node_reads.specs.Headers.{table_rows}
 use Rattle.adf_records.specs.declared.NodeHeader.{NodeHeader}
 use Rattle.tree_laws.specs.Pays.{edit_blocks}
 use Rattle.tree_laws.proofs.Groups.Pays.{edit_pays}
@@ -37,14 +35,13 @@ use Rattle.tree_edits.specs.Causes.{named_row, HeaderBreaks, IsLabelCause, MaySe
 use Rattle.tree_edits.specs.Created.{IsCreatable, IsCreateCause, CreatesWithin}
 use Rattle.tree_edits.specs.Edits.{Does, Refuses, KeepsCore, memory_of}
 use Rattle.tree_edits.specs.Linkable.{IsLinkable, IsLinkCause, LinksWithin}
-use Rattle.tree_edits.specs.Joined.{join_cost}
-use Rattle.tree_edits.specs.Listed.{IsTableOf, TableBreaks, IsUnlisted, ReadsTable}
+use Rattle.tree_edits.specs.Listed.{TableBreaks, IsUnlisted, ReadsTable}
 use Rattle.tree_edits.specs.Names.{IsNameCause, IsTableAbove, MayRename}
-use Rattle.tree_edits.specs.Rows.{AreNear, Means, IsRowOf, row_of}
+use Rattle.tree_edits.specs.Rows.{AreNear, Means, IsRowOf}
 use Rattle.tree_edits.proofs.Kids.{count_is, kids_are}
 use Rattle.cg_io.proofs.ReadLaws.{few_only, only_none}
 use Rattle.adf_tree.proofs.HeaderRules.{header_rule}
-use Rattle.adf_tree.specs.Steps.{EditAnswers, IsStepCause, IsWithinCost, drawn_by}
+use Rattle.adf_tree.specs.Steps.{EditAnswers, IsStepCause, IsWithinCost}
 
 -- ---- rules
 

@@ -1,16 +1,15 @@
 -- A group under way, and its ends.
-use Rattle.std.proofs.Common.{◌≡◌, ◌≢◌, ◌⊎◌, inl, inr, ℕ, zero, suc, refl, sym, ◌∙◌, ap, subst, arith, List, [], ◌∷◌, ◌++◌, length, take, ◌+◌, ◌≤◌, ◌<◌, Bool, true, false}
+use Rattle.std.proofs.Common.{◌≡◌, inl, inr, ℕ, suc, refl, sym, ◌∙◌, ap, subst, arith, List, [], ◌∷◌, ◌++◌, length, take, ◌≤◌, ◌<◌, Bool, true, false}
 use Rattle.std.proofs.lemmas.Bool.Decides.{eqb_tells}
 use Rattle.std.proofs.lemmas.Option.{slice_get_within}
-use Rattle.std.specs.Prelude.{Option, Some, None, IfSome, IsSome, IsTrue, is_some, ◌==◌, if◌then◌else◌, slice_get, Result, Ok, Err}
-use Rattle.adf_format.specs.RuleNumbers.{IsRule}
+use Rattle.std.specs.Prelude.{Option, Some, None, IfSome, IsSome, IsTrue, is_some, ◌==◌, if◌then◌else◌, slice_get, Ok, Err}
 use Rattle.adf_format.specs.Tree.{Tree, next_serial}
 use Rattle.adf_format.specs.Placement.{Placement}
 use Rattle.adf_format.specs.LaysOut.{LaysOut}
 use Rattle.adf_model.specs.Causes.{may_refuse_edit, IsIndex}
 use Rattle.adf_model.specs.Counts.{DeviceState, NoCountFell, OnlyReads, Rose}
 use Rattle.adf_model.specs.Edits.{Work, created_by, file_group, file_step}
-use Rattle.adf_model.specs.FileGroup.{FileGroupAnyway, FileStops, RefusedAnyway, HasFileCause, IsBrokenGroup, done_by}
+use Rattle.adf_model.specs.FileGroup.{FileGroupAnyway, RefusedAnyway, HasFileCause, IsBrokenGroup, done_by}
 use Rattle.adf_model.specs.Placing.{group_cost, place_group}
 use Rattle.adf_model.specs.Torn.{TornAt}
 use Rattle.adf_model.specs.Slots.{Standing, no_device}
@@ -18,7 +17,6 @@ use Rattle.adf_model.specs.Steps.{IsFileRefusal, OnlyRead}
 use Rattle.adf_model.specs.Untouched.{KeepsRest, KeepsTail}
 use Rattle.adf_model.specs.declared.error.AdfError.{AdfError}
 use Rattle.adf_model.specs.declared.error.AdfError.TheVariants as error
-use Rattle.adf_model.specs.declared.error.EditError.{EditError}
 use Rattle.adf_model.specs.declared.tree.Edit.{Edit}
 use Rattle.adf_model.specs.declared.tree.Edit.TheVariants.{Create, Delete, Rename, Move, SetLabel, SetDims, PutAll, PutPart, Link}
 use Rattle.adf_model.specs.declared.tree.NodeId.{NodeId}
@@ -30,13 +28,13 @@ use Rattle.tree_laws.proofs.Whole.GroupsWhole.{whole_group_begins}
 use Rattle.tree_laws.proofs.Groups.GroupLoop.{made_more}
 use Rattle.tree_laws.proofs.Groups.GroupsGrow.{firsts_grow}
 use Rattle.tree_edits.specs.declared.memory.Core.{Core}
-use Rattle.tree_edits.specs.Edits.{Does, KeepsCore, Refuses, memory_of}
+use Rattle.tree_edits.specs.Edits.{Does, Refuses, memory_of}
 use Rattle.tree_edits.specs.Rows.{Means}
 use Rattle.cg_io.proofs.ReadLaws.{only_none, only_then}
 use Rattle.adf_tree.specs.Commits.{Commits, Breaks, CommitEnds, undone}
-use Rattle.adf_tree.specs.Files.{FileState, FollowsAll, DoesAll, HasMeaning, accepted, device_with}
+use Rattle.adf_tree.specs.Files.{FileState, FollowsAll, DoesAll, accepted, device_with}
 use Rattle.adf_tree.specs.Steps.{IsStepCause, Refused, StepEnds, Stepped, undone_over}
-use Rattle.adf_tree.specs.Groups.{GroupAnyway, GroupBreaks, GroupDone, GroupRefused, GroupStops, IsGroupOf, IsOfKind, IsUnderWay, NamesRule, NextEnds, RefusalLeaves, WorkOf, made_by, opened_as, standing_in}
+use Rattle.adf_tree.specs.Groups.{GroupAnyway, GroupBreaks, GroupDone, GroupRefused, GroupStops, IsGroupOf, IsOfKind, IsUnderWay, NamesRule, NextEnds, RefusalLeaves, WorkOf, made_by, standing_in}
 use Rattle.adf_tree.proofs.Stepping.{same_accepted}
 
 -- ---- standings

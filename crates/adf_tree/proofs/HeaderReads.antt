@@ -1,12 +1,11 @@
 -- A look at the header of a node.
-use Rattle.std.proofs.Common.{◌≡◌, ℕ, refl, sym, ◌∙◌, ap, subst, arith, List, [], length, Bool, true, false}
+use Rattle.std.proofs.Common.{◌≡◌, ℕ, sym, ◌∙◌, ap, subst, List, false}
 use Rattle.std.specs.Prelude.{Option, Some, None, IfSome, IsSome, IfOk, IfErr, is_some, Result, Ok, Err}
 use Rattle.std.specs.Map.{keys_of}
 use Rattle.adf_format.specs.LaysOut.{fields_of}
 use Rattle.adf_format.specs.RecordFields.{node_length}
-use Rattle.adf_format.specs.RuleNumbers.{IsRule}
-use Rattle.adf_format.specs.Tree.{Tree, Node, node_at}
-use Rattle.adf_format.specs.Placement.{Placement, NodeParts, parts_of}
+use Rattle.adf_format.specs.Tree.{Node}
+use Rattle.adf_format.specs.Placement.{NodeParts}
 use Rattle.adf_model.specs.Counts.{DeviceState, OnlyReads}
 use Rattle.adf_model.specs.declared.error.AdfError.{AdfError}
 use Rattle.adf_model.specs.declared.error.AdfError.TheVariants as error
@@ -14,7 +13,7 @@ use Rattle.adf_model.proofs.Basics.{same_Some}
 use Rattle.adf_records.specs.declared.NodeHeader.{NodeHeader}
 use Rattle.block_cache.specs.Cache.{IsCache}
 use Rattle.block_cache.specs.declared.cache.BlockCache.{BlockCache}
-use Rattle.block_draft.specs.Draft.{blocks_below, changes_in, waiting_in, shown_in}
+use Rattle.block_draft.specs.Draft.{blocks_below, changes_in, waiting_in}
 use Rattle.block_draft.specs.declared.draft.Draft.{Draft}
 use Rattle.cg_io.specs.Answers.{IsUntold}
 use Rattle.cg_io.specs.Blocks.{Both}
@@ -23,7 +22,7 @@ use Rattle.node_reads.specs.Headers.{IsHeader, SaysFields, header_rows}
 use Rattle.tree_edits.specs.declared.memory.Core.{Core}
 use Rattle.tree_edits.specs.declared.rows.Row.{Row}
 use Rattle.tree_edits.specs.Edits.{memory_of}
-use Rattle.tree_edits.specs.Rows.{Means, row_of}
+use Rattle.tree_edits.specs.Rows.{row_of}
 use Rattle.tree_edits.proofs.Nodes.{the_node, header_says, no_break}
 use Rattle.adf_tree.specs.declared.file.AdfFile.{AdfFile}
 use Rattle.adf_tree.specs.Files.{FileState, device_of, image_in, accepted, steps_in, DoesAll, HasMeaning, IsWorking}

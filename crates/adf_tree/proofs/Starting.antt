@@ -1,10 +1,10 @@
 -- A file in which no edit is in work.
-use Rattle.std.proofs.Common.{◌≡◌, ℕ, refl, sym, ◌∙◌, ap, subst, arith, List, [], ◌∷◌, map, length, ◌+◌, ◌≤◌, Bool, true, false}
-use Rattle.std.specs.Prelude.{Option, Some, None, IfSome}
+use Rattle.std.proofs.Common.{◌≡◌, ℕ, refl, sym, ◌∙◌, ap, subst, arith, List, [], ◌∷◌, map, length, Bool, false}
+use Rattle.std.specs.Prelude.{Option, Some, None}
 use Rattle.std.specs.Map.{keys_of}
-use Rattle.block_cache.specs.Cache.{IsCache, device_in}
+use Rattle.block_cache.specs.Cache.{IsCache}
 use Rattle.block_draft.specs.Changes.{image_of, with_changes}
-use Rattle.block_draft.specs.Draft.{blocks_below, changes_in, waiting_in, shown_in}
+use Rattle.block_draft.specs.Draft.{blocks_below, changes_in, waiting_in}
 use Rattle.cg_io.specs.Blocks.{Both}
 use Rattle.cg_io.specs.Device.{DeviceState}
 use Rattle.adf_model.specs.declared.tree.Edit.{Edit}
@@ -14,7 +14,6 @@ use Rattle.tree_laws.proofs.Whole.GroupsWhole.{whole_group_begins}
 use Rattle.file_heap.specs.Heap.{FreeSpace}
 use Rattle.tree_edits.specs.declared.memory.Core.{Core}
 use Rattle.tree_edits.specs.declared.rows.Row.{Row}
-use Rattle.tree_edits.specs.Edits.{memory_of}
 use Rattle.tree_edits.specs.Rows.{AreNear}
 use Rattle.adf_tree.specs.declared.file.AdfFile.{AdfFile}
 use Rattle.adf_tree.specs.Files.{FileState, steps_in, device_of, image_in, state_of, accepted, HasMeaning, DoesAll, IsFile}

@@ -1,33 +1,29 @@
 -- Edits in work, and one more.
-use Rattle.std.proofs.Common.{◌≡◌, ℕ, zero, suc, refl, sym, ◌∙◌, ap, subst, arith, List, [], ◌∷◌, ◌++◌, length, map, take, ◌+◌, ◌≤◌, Bool, true, false}
-use Rattle.std.proofs.lemmas.List.{map-append}
+use Rattle.std.proofs.Common.{◌≡◌, ℕ, suc, refl, sym, ◌∙◌, ap, subst, arith, List, [], ◌∷◌, ◌++◌, length, take, ◌+◌, ◌≤◌, Bool, true, false}
 use Rattle.std.specs.Prelude.{Option, Some, None, IfSome, slice_get, Ok}
 use Rattle.adf_format.specs.Tree.{Tree}
 use Rattle.adf_format.specs.Placement.{Placement}
 use Rattle.adf_model.specs.Counts.{DeviceState, OnlyReads}
-use Rattle.adf_model.specs.Edits.{Work, created_by, file_step}
+use Rattle.adf_model.specs.Edits.{created_by, file_step}
 use Rattle.adf_model.specs.FileGroup.{done_by}
 use Rattle.adf_model.specs.Need.{cost}
 use Rattle.adf_model.specs.Placing.{chunk_number, group_cost}
 use Rattle.adf_model.specs.declared.tree.Edit.{Edit}
-use Rattle.adf_model.specs.declared.tree.NodeId.{NodeId}
-use Rattle.adf_tree.specs.Reached.{with_reached}
-use Rattle.block_cache.specs.Cache.{IsCache, device_in}
-use Rattle.block_draft.specs.Draft.{blocks_below, changes_in, waiting_in, shown_in}
+use Rattle.block_cache.specs.Cache.{IsCache}
+use Rattle.block_draft.specs.Draft.{blocks_below, changes_in, waiting_in}
 use Rattle.cg_io.specs.Blocks.{Both}
 use Rattle.cg_io.specs.Waits.{how_many}
 use Rattle.file_heap.specs.Heap.{FreeSpace}
 use Rattle.tree_laws.specs.Groups.{tree_left, placement_left}
-use Rattle.tree_laws.specs.Spared.{IsEditWhole}
 use Rattle.tree_laws.specs.WholeGroups.{IsGroupWhole}
 use Rattle.tree_laws.proofs.Groups.GroupsGrow.{group_is_done, done_grow, placement_is_left, cost_grows}
 use Rattle.tree_laws.proofs.Whole.GroupsWhole.{whole_group_goes_on}
 use Rattle.tree_edits.specs.declared.memory.Core.{Core}
 use Rattle.tree_edits.specs.declared.rows.Row.{Row}
 use Rattle.tree_edits.specs.Edits.{Does, KeepsCore, memory_of}
-use Rattle.tree_edits.specs.Rows.{AreNear, Means}
+use Rattle.tree_edits.specs.Rows.{AreNear}
 use Rattle.adf_tree.specs.declared.file.AdfFile.{AdfFile}
-use Rattle.adf_tree.specs.Files.{steps_in, device_of, image_in, accepted, HasMeaning, FollowsAll, DoesAll, IsIdle, IsWorking, IsFile}
+use Rattle.adf_tree.specs.Files.{steps_in, device_of, image_in, accepted, HasMeaning, FollowsAll, DoesAll, IsWorking, IsFile}
 use Rattle.adf_tree.specs.Commits.{committed}
 use Rattle.adf_tree.specs.Steps.{IsWithinCost}
 use Rattle.adf_tree.proofs.Starting.{idle_file, no_steps}

@@ -1,12 +1,12 @@
 -- What a group of edits answers, and what it leaves of an open file.
-use Rattle.std.specs.Prelude.{◌≡◌, ◌≢◌, ◌⊎◌, ℕ, Bool, true, false, if◌then◌else◌, List, [], ◌∷◌, ◌++◌, length, take, Some, None, Option, IfSome, IsTrue, slice_get, ⊤, Result, Ok, Err}
+use Rattle.std.specs.Prelude.{◌≡◌, ◌≢◌, ◌⊎◌, ℕ, true, false, if◌then◌else◌, List, [], ◌∷◌, ◌++◌, length, take, Some, None, Option, IfSome, IsTrue, slice_get, ⊤, Result, Ok, Err}
 use Rattle.adf_format.specs.Tree.{Tree}
 use Rattle.adf_format.specs.Placement.{Placement}
 use Rattle.adf_format.specs.RuleNumbers.{IsRule}
 use Rattle.adf_model.specs.Causes.{may_refuse_edit}
 use Rattle.adf_model.specs.Counts.{OnlyReads}
 use Rattle.adf_model.specs.Edits.{Work, file_group}
-use Rattle.adf_model.specs.FileGroup.{ArePlacedIn, FileEdited, FileStops, FileGroupAnyway, IsWritten, done_in}
+use Rattle.adf_model.specs.FileGroup.{ArePlacedIn, FileEdited, FileStops, FileGroupAnyway, IsWritten}
 use Rattle.adf_model.specs.Slots.{Open, Standing, no_device}
 use Rattle.adf_model.specs.Slots.Slot.{Live}
 use Rattle.adf_model.specs.Torn.{TornAt}

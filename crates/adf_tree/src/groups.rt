@@ -30,7 +30,8 @@ fn made_node(edit: &Edit, serial: Option<u64>) -> Option<NodeId>
 
 // Keeps the node that an edit made.
 fn keep_made(created: &mut Vec<NodeId>, edit: &Edit, serial: Option<u64>) -> Result<(), AdfError>
-    ensures kept { OnOk result (created.new.items ≡ created.old.items ++ made_of edit.now serial) }
+    ensures kept { OnOk result
+        (created.new.items ≡ created.old.items ++ made_of edit.now serial) }
     ensures memory { IfErr result (λ e. e ≡ AdfError.Memory) }
 {
     let node = match made_node(edit, serial) {
@@ -71,14 +72,16 @@ impl<D: Device> AdfFile<D> {
     /// all edits, and the file is broken.
     pub fn edit(&mut self, edits: &[Edit]) -> Result<Serials, EditError>
         requires sound { IsFile D.state self.old }
-        requires built { (i : ℕ) (edit : Edit) → slice_get edits.now i ≡ Some edit → IsBuilt edit }
+        requires built { (i : ℕ) (edit : Edit) → slice_get edits.now i ≡ Some edit
+            → IsBuilt edit }
         ensures sound { IsFile D.state self.new }
         ensures told { (state_of D.state self.old).broken ≡ false
             → IfSome (device_of D.state self.old).held (IsGroupOf edits.now result
             (state_of D.state self.old) (state_of D.state self.new)) }
         ensures leaves { IfErr result (λ refusal. RefusalLeaves refusal.error
             (state_of D.state self.old) (state_of D.state self.new)) }
-        ensures none { edits.now ≡ [] → state_of D.state self.new ≡ state_of D.state self.old }
+        ensures none { edits.now ≡ []
+            → state_of D.state self.new ≡ state_of D.state self.old }
         ensures anyway { GroupAnyway edits.now result (state_of D.state self.old)
             (state_of D.state self.new) }
         ensures kind { IfErr result (IsOfKind edits.now) }

@@ -1,10 +1,9 @@
-use Rattle.std.proofs.Common.{◌≡◌, ◌∙◌, ap, refl, sym, subst, arith, length, List, ℕ, []}
+use Rattle.std.proofs.Common.{◌≡◌, ◌∙◌, refl, subst, arith, length, ℕ}
 use Rattle.std.proofs.lemmas.Option.{slice_get_read}
 use Rattle.std.specs.Prelude.{Some, Ok, Err, slice_get}
-use Rattle.adf_model.specs.declared.tree.Edit.{Edit}
-use Rattle.adf_tree.specs.Files.{FileState, device_of, state_of}
+use Rattle.adf_tree.specs.Files.{device_of, state_of}
 use Rattle.adf_tree.specs.Groups.{GroupRefused, IsGroupOf, IsOfKind}
-use Rattle.adf_tree.proofs.Grouping.{way_begins, way_goes_on, next_none, next_told, next_leaves, next_anyway, next_kind, of_told, done_there, done_anyway, ends_told, ends_leave, ends_anyway, ends_kind, is_none, is_some_edit, nothing_told}
+use Rattle.adf_tree.proofs.Grouping.{way_begins, way_goes_on, next_none, next_told, next_leaves, next_anyway, next_kind, of_told, done_there, ends_told, ends_kind, is_none, is_some_edit, nothing_told}
 use Rattle.adf_tree.proofs.Starting.{idle_state}
 use Rattle.adf_tree.proofs.file.AdfFile.edit.Goals as goal
 

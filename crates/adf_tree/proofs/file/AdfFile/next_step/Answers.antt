@@ -1,7 +1,6 @@
-use Rattle.std.proofs.Common.{◌∙◌, ap, sym, subst, ◌++◌, List, ℕ}
+use Rattle.std.proofs.Common.{◌∙◌, ap, sym, subst, ◌++◌, ℕ}
 use Rattle.std.specs.Prelude.{Option, Err}
 use Rattle.adf_model.specs.declared.error.AdfError.{AdfError}
-use Rattle.adf_model.specs.declared.tree.NodeId.{NodeId}
 use Rattle.adf_tree.specs.Files.{state_of}
 use Rattle.adf_tree.specs.Groups.{NextEnds, made_of}
 use Rattle.adf_tree.proofs.Grouping.{memory_refused, step_refused}

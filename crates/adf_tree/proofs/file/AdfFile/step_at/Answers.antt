@@ -1,4 +1,4 @@
-use Rattle.std.proofs.Common.{◌∙◌, ap, refl, sym, subst, map, [], ◌∷◌}
+use Rattle.std.proofs.Common.{◌∙◌, ap, sym, subst, map, [], ◌∷◌}
 use Rattle.std.proofs.lemmas.List.{map-append}
 use Rattle.block_cache.specs.Cache.{IsCache, device_in}
 use Rattle.block_draft.specs.Draft.{blocks_below, changes_in, waiting_in}
