@@ -11,3 +11,6 @@ pub mod HeaderReads
 pub mod ReachedEdits
 pub mod EditsAnswer
 pub mod Grouping
+pub mod AskLooks
+pub mod AskWalks
+pub mod AskEnds

@@ -6,3 +6,4 @@ pub mod Commits
 pub mod Steps
 pub mod Headers
 pub mod Groups
+pub mod Asks

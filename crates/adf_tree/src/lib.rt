@@ -2,11 +2,13 @@
 
 #![tactic(auto)]
 
+mod asks;
 mod edits;
 mod file;
 mod fresh;
 mod groups;
 mod headers;
+mod looks;
 mod opening;
 mod steps;
 

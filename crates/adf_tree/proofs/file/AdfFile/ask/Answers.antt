@@ -1,0 +1,31 @@
+use Rattle.adf_tree.proofs.AskEnds.{asks_end, broken_asks, memory_asks, other_hints}
+use Rattle.adf_tree.proofs.HeaderReads.{read_works}
+use Rattle.adf_tree.specs.Files.{state_of}
+use Rattle.adf_tree.proofs.file.AdfFile.ask.Goals as goal
+
+pub returns-then-self-clause-ends : goal.returns-then-self-clause-ends
+returns-then-self-clause-ends g c =
+    let file = state_of g.D.Device.state c.args.self.now in
+    broken_asks c.args.query.now file file c.if-self.true
+
+pub returns-in-Err-clause-sound : goal.returns-in-Err-clause-sound
+returns-in-Err-clause-sound g c = other_hints g.D.Device.state c.args.self.now _ c.requires
+
+pub returns-in-Err-clause-ends : goal.returns-in-Err-clause-ends
+returns-in-Err-clause-ends g c =
+    let file = state_of g.D.Device.state c.args.self.now in
+    memory_asks c.args.query.now file file c.in-Err.error c.if-self.false c.in-Err.ensures
+
+pub returns-clause-sound : goal.returns-clause-sound
+returns-clause-sound g c =
+    let state = g.D.Device.state in
+    let file = c.args.self.now in
+    let reads = c.answer-result.ensures.reads in
+    other_hints state (record file { draft = c.answer-result.new.space }) _ (read_works state file c.answer-result.new.space c.requires reads.sound reads.bytes reads.waits reads.effect)
+
+pub returns-clause-ends : goal.returns-clause-ends
+returns-clause-ends g c =
+    let state = g.D.Device.state in
+    let file = c.args.self.now in
+    let reads = c.answer-result.ensures.reads in
+    asks_end c.args.query.now (state_of state file) (state_of state (record file { draft = c.answer-result.new.space })) c.answer-result.result c.if-self.false c.answer-result.ensures.told c.answer-result.ensures.known reads.cause
