@@ -1,5 +1,5 @@
 -- Causes of refusals, as sums.
-use Rattle.std.proofs.Common.{◌≡◌, ℕ, ◌⊎◌, inl, inr, refl}
+use Rattle.std.proofs.Common.{ℕ, ◌⊎◌, inl, inr, refl}
 use Rattle.adf_model.specs.declared.error.AdfError.{AdfError}
 use Rattle.adf_model.specs.declared.error.AdfError.TheVariants as error
 use Rattle.node_reads.specs.Reads as reads

@@ -1,16 +1,16 @@
 -- In a file that lays out a tree, the children of a node rise with their numbers, and are those whose parent it is.
-use Rattle.std.proofs.Common.{◌≡◌, ◌⊎◌, inl, inr, ℕ, zero, suc, ◌+◌, ◌-◌, ◌<◌, ◌≤◌, List, [], ◌∷◌, ◌++◌, length, map, get_or, drop, refl, sym, ◌∙◌, ap, subst, arith, Bool, true, false}
-use Rattle.std.specs.Prelude.{Option, Some, None, IsSome, slice_get, option_map, ◌==◌, ◌||◌, filter, cond}
+use Rattle.std.proofs.Common.{◌≡◌, inl, inr, ℕ, zero, suc, ◌+◌, ◌-◌, ◌<◌, ◌≤◌, List, [], ◌∷◌, ◌++◌, length, map, get_or, drop, refl, sym, ◌∙◌, ap, subst, arith, Bool, true, false}
+use Rattle.std.specs.Prelude.{Option, Some, None, slice_get, option_map, ◌==◌, filter, cond}
 use Rattle.std.specs.List.{AllByRecursion, range_with_len}
 use Rattle.std.proofs.lemmas.Bool.{cases_lt}
 use Rattle.std.proofs.lemmas.Bool.Decides.{eqb_tells}
-use Rattle.std.proofs.lemmas.Option.{slice_get_within, slice_get-map}
+use Rattle.std.proofs.lemmas.Option.{slice_get-map}
 use Rattle.std.proofs.lemmas.List.{length-map}
 use Rattle.adf_format.specs.FirstFault.{Visit, is_wide}
 use Rattle.adf_format.specs.LaysOut.{LaysOut}
 use Rattle.adf_format.specs.Placement.{Placement}
 use Rattle.adf_format.specs.SoundPart.{tree_of, node_of_visit, children_among}
-use Rattle.adf_format.specs.Tree.{Tree, Node, IsNumbered, IsAmong, is_among, node_at, children_at, children_of as kids_of, numbered}
+use Rattle.adf_format.specs.Tree.{Tree, Node, IsNumbered, IsAmong, is_among, children_at, children_of as kids_of}
 use Rattle.adf_format.specs.Verdict.{ListsNodes}
 use Rattle.adf_format.proofs.OrderLaws.{InOrder}
 use Rattle.adf_format.proofs.PathLaws.{is_walked, child_of}

@@ -1,13 +1,13 @@
 -- Nodes that make a tree break no rule, and have the shapes of the nodes of the tree.
-use Rattle.std.proofs.Common.{◌≡◌, ◌≢◌, ℕ, zero, suc, ◌+◌, ◌-◌, ◌*◌, ◌^◌, ◌<◌, ◌≤◌, min, max, List, [], ◌∷◌, length, take, get_or, length-take, refl, sym, ◌∙◌, ap, subst, arith, inl, inr, Bool, true, false, Option, None, Some}
-use Rattle.std.specs.Prelude.{◌==◌, ◌&&◌, cond, nat_le, nat_lt, is_some, option_map, slice_get, slice_index_or}
+use Rattle.std.proofs.Common.{◌≡◌, ℕ, zero, suc, ◌-◌, ◌^◌, ◌<◌, ◌≤◌, List, [], ◌∷◌, length, take, get_or, length-take, refl, sym, ◌∙◌, ap, subst, arith, inl, inr, Bool, true, false, Option, None, Some}
+use Rattle.std.specs.Prelude.{◌==◌, ◌&&◌, cond, nat_le, is_some, option_map, slice_index_or}
 use Rattle.std.specs.List.{Contains, list_all}
 use Rattle.std.proofs.lemmas.Bool.{ne_eqb}
 use Rattle.std.proofs.lemmas.Bool.Decides.{nat_tests}
 use Rattle.adf_format.specs.declared.fields.TheConstants.{CHUNK_START}
 use Rattle.adf_format.specs.Checks.{Fault, Row, first_broken}
 use Rattle.adf_format.specs.Names.{data_size, is_dimension, is_rank_of}
-use Rattle.adf_format.specs.Packed.{packed_length, packed_nodes, packed_data}
+use Rattle.adf_format.specs.Packed.{packed_nodes, packed_data}
 use Rattle.adf_format.specs.Parts.{node_length, dimension_digits}
 use Rattle.adf_format.specs.Pointer.{is_place}
 use Rattle.adf_format.specs.RecordFields.{field_in}
@@ -23,13 +23,13 @@ use Rattle.node_reads.specs.Reads.{Breaks}
 use Rattle.layout_lint.specs.declared.verdict.NodePlace.{NodePlace}
 use Rattle.adf_repack.specs.declared.places.NodeShape.{NodeShape}
 use Rattle.adf_repack.specs.declared.plan.Plan.{Plan}
-use Rattle.adf_repack.specs.Copies.{numbers_in, BreaksNames}
+use Rattle.adf_repack.specs.Copies.{numbers_in}
 use Rattle.adf_repack.specs.Families.{children_of}
-use Rattle.adf_repack.specs.Given.{in_version, HasChunk, HoldsData, IsGivenNode, IsGiven}
-use Rattle.adf_repack.specs.Measures.{size_in, shape_in, AllFit, AreMeasured, IsUnmeasured, AreUnmeasured}
+use Rattle.adf_repack.specs.Given.{HasChunk, HoldsData, IsGivenNode, IsGiven}
+use Rattle.adf_repack.specs.Measures.{shape_in, AllFit, AreMeasured, AreUnmeasured}
 use Rattle.adf_repack.specs.Payloads.{chunk_at, payloads_of, BreaksEntry, BreaksHead, BreaksData, BreaksContents}
 use Rattle.adf_repack.specs.Places.{limited, shape_of, shapes_of}
-use Rattle.adf_repack.specs.Plans.{no_shape, shape_at, table_in, record_at, old_place, HasLong, SaysAt, BreaksParts, BreaksNode, BreaksOne}
+use Rattle.adf_repack.specs.Plans.{no_shape, shape_at, record_at, old_place, HasLong, BreaksParts, BreaksNode, BreaksOne}
 use Rattle.adf_repack.specs.Repacks.{HasLongDimension}
 use Rattle.adf_repack.proofs.PayloadLaws.{told_of}
 use Rattle.adf_repack.proofs.TextLaws.{none_some, same_some}

@@ -1,6 +1,5 @@
 -- Nodes that are measured one after the other.
-use Rattle.std.proofs.Common.{◌≡◌, ℕ, ◌+◌, ◌-◌, ◌^◌, ◌<◌, ◌≤◌, List, [], ◌∷◌, ◌++◌, length, get_or, take, replicate, length-append, length-take, refl, sym, ◌∙◌, ap, subst, arith, inl, inr, Bool, Option, Some, IfSome}
-use Rattle.std.specs.List.{Contains}
+use Rattle.std.proofs.Common.{◌≡◌, ℕ, ◌+◌, ◌-◌, ◌^◌, ◌<◌, ◌≤◌, List, [], ◌∷◌, ◌++◌, length, get_or, take, replicate, length-append, length-take, refl, sym, ◌∙◌, ap, subst, arith, inl, inr, Bool, Option, Some}
 use Rattle.std.proofs.lemmas.Bool.{cases_lt}
 use Rattle.std.proofs.lemmas.List.{get_or_append_left, get_or-append_right, get_or_default}
 use Rattle.adf_format.specs.Parts.{dimension_digits}

@@ -1,16 +1,14 @@
 -- A copy that was planned lays out the tree that the given nodes make.
-use Rattle.std.proofs.Common.{◌≡◌, ℕ, ◌+◌, ◌-◌, ◌*◌, ◌^◌, ◌<◌, ◌≤◌, List, [], ◌∷◌, ◌++◌, length, replicate, get_or, append_assoc, refl, sym, ◌∙◌, ap, subst, arith, Bool, true, false, Option, None, Some}
-use Rattle.std.specs.Prelude.{slice_index_or}
+use Rattle.std.proofs.Common.{◌≡◌, ℕ, ◌+◌, ◌-◌, ◌*◌, ◌^◌, ◌<◌, ◌≤◌, List, ◌++◌, length, replicate, get_or, append_assoc, refl, sym, ◌∙◌, ap, subst, arith, Option, Some}
 use Rattle.std.specs.List.{Contains, range_with_len, flat_map}
 use Rattle.std.proofs.lemmas.List.{get_or_default}
 use Rattle.adf_format.specs.declared.types.Format.{Format}
 use Rattle.adf_format.specs.HeapRule.{parts_at}
 use Rattle.adf_format.specs.LaysOut.{LaysOut}
 use Rattle.adf_format.specs.Packed.{packed_length}
-use Rattle.adf_format.specs.Placement.{Placement}
 use Rattle.adf_format.specs.Pointer.{Blank}
-use Rattle.adf_format.specs.Records.{NodeRecord, header_text, free_table_text}
-use Rattle.adf_format.specs.Tree.{Tree, Node, IsTree}
+use Rattle.adf_format.specs.Records.{header_text, free_table_text}
+use Rattle.adf_format.specs.Tree.{Tree, IsTree}
 use Rattle.cg_io.specs.Device.{padded}
 use Rattle.layout_lint.specs.declared.verdict.NodePlace.{NodePlace}
 use Rattle.packed_laws.specs.PackedForm.{packed_placement, packed_room, packed_header_of, packed_node_text, packed_nodes_text, packed_text}
@@ -19,16 +17,16 @@ use Rattle.packed_laws.proofs.PackedTexts.{names_short}
 use Rattle.adf_repack.specs.declared.places.NodeShape.{NodeShape}
 use Rattle.adf_repack.specs.declared.planning.Planned.{Planned}
 use Rattle.adf_repack.specs.Families.{children_of}
-use Rattle.adf_repack.specs.Given.{in_version, IsGivenNode, IsGiven}
+use Rattle.adf_repack.specs.Given.{in_version, IsGiven}
 use Rattle.adf_repack.specs.Places.{shape_of, room_of, length_of}
 use Rattle.adf_repack.specs.Planning.{IsPlanned, copied_file}
-use Rattle.adf_repack.specs.Plans.{no_shape, shape_at, header_at, table_in, record_at, old_place, copied_at, copied_until}
+use Rattle.adf_repack.specs.Plans.{no_shape, shape_at, header_at, record_at, old_place, copied_at, copied_until}
 use Rattle.adf_repack.specs.Repacks.{HasLongDimension, IsPackedFile, IsCopied}
 use Rattle.adf_repack.specs.Writers.{in_blocks, blocks_for}
 use Rattle.adf_repack.proofs.EntryLaws.{child_within}
 use Rattle.adf_repack.proofs.GivenLaws.{none_long, shape_is, shapes_are}
 use Rattle.adf_repack.proofs.PlaceLaws.{place_more, room_is, length_is}
-use Rattle.adf_repack.proofs.TextLaws.{IsEntry, node_so, IsNext, nodes_so, StandsNext, stands_so}
+use Rattle.adf_repack.proofs.TextLaws.{node_so, IsNext, nodes_so, StandsNext, stands_so}
 use Rattle.adf_repack.proofs.VersionLaws.{tree_so}
 
 zero_more : (i : ℕ) → i ≡ 0 + i

@@ -1,5 +1,5 @@
 -- A draft whose last place can be reached is a plan.
-use Rattle.std.proofs.Common.{◌≡◌, ℕ, ◌+◌, ◌^◌, ◌<◌, ◌≤◌, List, length, refl, sym, ◌∙◌, ap, subst, arith, inl, inr, Bool, Option, Some}
+use Rattle.std.proofs.Common.{◌≡◌, ℕ, ◌^◌, ◌≤◌, List, length, refl, sym, ◌∙◌, ap, subst, arith, inl, inr, Bool, Option, Some}
 use Rattle.std.proofs.lemmas.List.Sums.{sum_by-take-le}
 use Rattle.adf_format.specs.Records.{HeaderRecord, header_record}
 use Rattle.adf_format.specs.SoundPart.{format_in}
@@ -11,9 +11,9 @@ use Rattle.node_reads.specs.Reads.{ReadAt}
 use Rattle.layout_lint.specs.declared.verdict.NodePlace.{NodePlace}
 use Rattle.adf_repack.specs.declared.planning.Planned.{Planned}
 use Rattle.adf_repack.specs.Families.{children_of}
-use Rattle.adf_repack.specs.Measures.{AllFit, AreMeasured, IsUnmeasuredAt, AreUnmeasured}
+use Rattle.adf_repack.specs.Measures.{AreUnmeasured}
 use Rattle.adf_repack.specs.Places.{room_of, length_of, limited}
-use Rattle.adf_repack.specs.Planning.{IsRoomFor, IsDrafted, IsPlanned}
+use Rattle.adf_repack.specs.Planning.{IsDrafted, IsPlanned}
 use Rattle.adf_repack.specs.Plans.{header_at, old_place}
 use Rattle.adf_repack.proofs.MeasureLaws.{unmeasured_later}
 

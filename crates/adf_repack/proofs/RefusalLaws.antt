@@ -1,5 +1,5 @@
 -- Why a copy is refused, by the tree that the given nodes make.
-use Rattle.std.proofs.Common.{◌≡◌, ◌⊎◌, ℕ, ◌+◌, ◌-◌, ◌^◌, ◌<◌, ◌≤◌, List, [], ◌∷◌, length, refl, sym, ◌∙◌, ap, subst, arith, inl, inr, Bool, true, false, Option, None, Some}
+use Rattle.std.proofs.Common.{◌≡◌, ◌⊎◌, ℕ, ◌+◌, ◌-◌, ◌≤◌, List, [], ◌∷◌, sym, ◌∙◌, ap, subst, arith, inl, inr, Bool, true, false, Option, None, Some}
 use Rattle.adf_format.specs.FirstFault.{header_rows as file_rows}
 use Rattle.adf_format.specs.Packed.{packed_length, packed_nodes}
 use Rattle.adf_format.specs.Parts.{node_length}
@@ -7,7 +7,6 @@ use Rattle.adf_format.specs.Tree.{Tree, Node}
 use Rattle.adf_model.specs.Counts.{OnlyReads}
 use Rattle.adf_model.specs.declared.error.AdfError.{AdfError}
 use Rattle.adf_model.specs.declared.error.AdfError.TheVariants as error
-use Rattle.cg_io.specs.Cause.{Rose}
 use Rattle.cg_io.specs.Device.{DeviceState, Reads}
 use Rattle.layout_lint.specs.declared.verdict.NodePlace.{NodePlace}
 use Rattle.adf_repack.specs.declared.places.NodeShape.{NodeShape}
@@ -15,10 +14,10 @@ use Rattle.adf_repack.specs.declared.planning.Planned.{Planned}
 use Rattle.adf_repack.specs.Copies.{IsUnwritten}
 use Rattle.adf_repack.specs.Given.{in_version, IsGiven}
 use Rattle.adf_repack.specs.Measures.{AreUnmeasured, HoldsNone}
-use Rattle.adf_repack.specs.Places.{limited, length_of, shapes_of}
-use Rattle.adf_repack.specs.Planning.{IsRoomFor, IsPlanned, IsNoRoom, HasNoRoom, IsUnplanned}
+use Rattle.adf_repack.specs.Places.{length_of}
+use Rattle.adf_repack.specs.Planning.{IsRoomFor, IsPlanned, IsUnplanned}
 use Rattle.adf_repack.specs.Plans.{BreaksOne}
-use Rattle.adf_repack.specs.Repacks.{IsLicensed, wants_memory, unread, unasked, unwritten, not_laid_out, too_long_dimension, not_empty, too_long, IsRefused, IsWritten, MayComeLate, LeavesDevice, HasLongDimension}
+use Rattle.adf_repack.specs.Repacks.{IsLicensed, wants_memory, unread, unasked, unwritten, not_laid_out, too_long_dimension, not_empty, too_long, IsRefused, IsWritten, LeavesDevice, HasLongDimension}
 use Rattle.adf_repack.specs.Sources.{IsUnread, IsBroken}
 use Rattle.adf_repack.specs.Writers.{OnlyWrites, WritesBlocks, raised_by, blocks_for}
 use Rattle.adf_repack.proofs.GivenLaws.{unbroken, measured, one_long, none_long, shapes_are, all_kept}

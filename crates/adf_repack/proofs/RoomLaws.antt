@@ -1,21 +1,18 @@
 -- The packed file of a tree that a file lays out is not much longer than that file.
-use Rattle.std.proofs.Common.{◌≡◌, ◌≢◌, ℕ, zero, suc, ◌+◌, ◌-◌, ◌*◌, ◌^◌, ◌<◌, ◌≤◌, max, List, [], ◌∷◌, ◌++◌, length, map, take, length-append, length-take, refl, sym, ◌∙◌, ap, subst, arith, Bool, true, false}
+use Rattle.std.proofs.Common.{◌≡◌, ◌≢◌, ℕ, suc, ◌+◌, ◌-◌, ◌*◌, ◌^◌, ◌<◌, ◌≤◌, List, [], ◌∷◌, ◌++◌, length, map, length-append, length-take, refl, sym, ap, arith, Bool, true, false}
 use Rattle.std.specs.Prelude.{Option, Some, None, is_some, slice_index_or, drop}
 use Rattle.std.specs.List.{AllByRecursion, flat_map}
-use Rattle.adf_format.specs.declared.types.Extent.{Extent}
 use Rattle.adf_format.specs.Fields.{field}
 use Rattle.adf_format.specs.LaysOut.{LaysOut, HoldsNode, HasTable, HasData, payloads}
 use Rattle.adf_format.specs.Packed.{packed_table, packed_data, packed_nodes, packed_length}
 use Rattle.adf_format.specs.Parts.{node_length, payload, SpellsChunk}
-use Rattle.adf_format.specs.Placement.{Placement, NodeParts, TablePart, ChunkPart, parts_of, extents_of, node_extents, table_extents, chunk_table_extents, chunk_extents, live_extents, head_extents, all_extents}
+use Rattle.adf_format.specs.Placement.{Placement, NodeParts, TablePart, ChunkPart, extents_of, node_extents, table_extents, chunk_table_extents, chunk_extents, live_extents, head_extents, all_extents}
 use Rattle.adf_format.specs.Tiles.{total_length}
-use Rattle.adf_format.specs.Tree.{Tree, Node, node_at}
+use Rattle.adf_format.specs.Tree.{Tree, Node}
 use Rattle.adf_format.proofs.CountLaws.{tiles_add_up}
 use Rattle.adf_format.proofs.WalkLaws.{total_length-append}
-use Rattle.adf_model.proofs.Basics.{same_Some}
 use Rattle.packed_laws.specs.PackedForm.{packed_room}
 use Rattle.adf_repack.specs.Given.{in_version}
-use Rattle.adf_repack.proofs.TextLaws.{none_some}
 
 header_twice : (wide : Bool) → 342 ≤ 2 * node_length wide
 header_twice false = omega arith

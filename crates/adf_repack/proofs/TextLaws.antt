@@ -1,11 +1,11 @@
 -- What is written of the nodes of a tree is what its packed file has.
-use Rattle.std.proofs.Common.{◌≡◌, ℕ, zero, suc, ◌+◌, ◌-◌, ◌*◌, ◌<◌, ◌≤◌, List, [], ◌∷◌, ◌++◌, length, map, take, replicate, max, get_or, refl, sym, ◌∙◌, ap, subst, arith, append_assoc, Bool, Option, None, Some}
+use Rattle.std.proofs.Common.{◌≡◌, ℕ, zero, suc, ◌+◌, ◌-◌, ◌*◌, ◌<◌, ◌≤◌, List, [], ◌∷◌, ◌++◌, length, map, replicate, max, get_or, refl, sym, ◌∙◌, ap, subst, arith, append_assoc, Bool, Option, None, Some}
 use Rattle.std.specs.Prelude.{option_map, slice_get, slice_index_or}
 use Rattle.std.specs.List.{Contains, range_with_len, flat_map}
 use Rattle.std.proofs.lemmas.List.Elements.{Contains-get_or, Contains-append_right}
 use Rattle.adf_format.specs.Fields.{text_field}
 use Rattle.adf_format.specs.Pointer.{To}
-use Rattle.adf_format.specs.Placement.{Placement, NodeParts}
+use Rattle.adf_format.specs.Placement.{Placement}
 use Rattle.adf_format.specs.HeapRule.{parts_at, parts_or_none}
 use Rattle.adf_format.specs.Records.{NodeRecord, SubNodes, Data, head_text, end_tag, node_text, entry_text}
 use Rattle.adf_format.specs.Parts.{node_length}
@@ -20,7 +20,7 @@ use Rattle.adf_repack.specs.declared.plan.Plan.{Plan}
 use Rattle.adf_repack.specs.Copies.{IsHeaderOf, copied_record, copied_entry, position_in}
 use Rattle.adf_repack.specs.Families.{children_of}
 use Rattle.adf_repack.specs.Given.{HoldsData}
-use Rattle.adf_repack.specs.Payloads.{payloads_of, copied_data}
+use Rattle.adf_repack.specs.Payloads.{copied_data}
 use Rattle.adf_repack.specs.Places.{shape_of, table_room}
 use Rattle.adf_repack.specs.Plans.{shape_at, header_at, copied_children, copied_node, table_in}
 use Rattle.adf_repack.proofs.CopyLaws.{copied_is}

@@ -1,6 +1,6 @@
 -- The nodes of a file that lays out a tree make that tree.
-use Rattle.std.proofs.Common.{◌≡◌, ◌≢◌, ◌⊎◌, inl, inr, ℕ, zero, suc, ◌+◌, ◌-◌, ◌*◌, ◌^◌, ◌<◌, ◌≤◌, List, [], ◌∷◌, ◌++◌, length, map, take, get_or, length-take, refl, sym, ◌∙◌, ap, subst, arith, Bool, true, false}
-use Rattle.std.specs.Prelude.{Option, Some, None, IsSome, slice_get, option_map, unwrap_or, cond, ◌==◌, ◌&&◌, nat_le, codes}
+use Rattle.std.proofs.Common.{◌≡◌, ◌≢◌, inl, inr, ℕ, zero, suc, ◌+◌, ◌-◌, ◌*◌, ◌^◌, ◌<◌, ◌≤◌, List, [], ◌∷◌, ◌++◌, length, map, take, get_or, length-take, refl, sym, ◌∙◌, ap, subst, arith, Bool, true, false}
+use Rattle.std.specs.Prelude.{Option, Some, None, slice_get, option_map, unwrap_or, cond, nat_le, codes}
 use Rattle.std.specs.List.{Contains, range_with_len, flat_map}
 use Rattle.std.specs.Str.{bytes_eq}
 use Rattle.std.proofs.lemmas.Bool.{ne_eqb}
@@ -13,20 +13,18 @@ use Rattle.adf_format.specs.declared.types.DataType.TheVariants.{Mt}
 use Rattle.adf_format.specs.declared.types.Format.{Format}
 use Rattle.adf_format.specs.declared.types.Extent.{Extent}
 use Rattle.adf_format.specs.declared.types.ExtentKind.{ExtentKind}
-use Rattle.adf_format.specs.Checks.{Row, first_broken}
+use Rattle.adf_format.specs.Checks.{first_broken}
 use Rattle.adf_format.specs.Fields.{field, holds, number, text_field}
-use Rattle.adf_format.specs.FirstFault.{is_wide, node_rows, count_up, header_rows as file_rows}
-use Rattle.adf_format.specs.Hex.{hex_value}
-use Rattle.adf_format.specs.LaysOut.{LaysOut, HoldsNode, HasTable, HasChunkTable, HasData, chunk_pointer, payloads, fields_of}
-use Rattle.adf_format.specs.Names.{is_label}
-use Rattle.adf_format.specs.Parts.{node_length, dimension_digits, format_letter, table_length, chunk_table_length, payload, HoldsPointer, SpellsChunk, SpellsHeader}
-use Rattle.adf_format.specs.Placement.{Placement, NodeParts, TablePart, ChunkPart, extent, parts_of, node_extents, table_extents, chunk_table_extents, chunk_extents}
+use Rattle.adf_format.specs.FirstFault.{node_rows, header_rows as file_rows}
+use Rattle.adf_format.specs.LaysOut.{LaysOut, HoldsNode, HasTable, HasChunkTable, HasData, chunk_pointer, payloads}
+use Rattle.adf_format.specs.Parts.{node_length, dimension_digits, format_letter, chunk_table_length, payload, HoldsPointer, SpellsChunk}
+use Rattle.adf_format.specs.Placement.{Placement, NodeParts, TablePart, ChunkPart, extent, node_extents, table_extents, chunk_table_extents, chunk_extents}
 use Rattle.adf_format.specs.Pointer.{Pointer, Blank, To, pointer, place_value, is_place, place_of, PointsTo}
-use Rattle.adf_format.specs.RecordFields.{field_in, node_dimension, node_chunk, node_chunks}
+use Rattle.adf_format.specs.RecordFields.{field_in, node_chunk, node_chunks}
 use Rattle.adf_format.specs.Records.{NodeRecord, node_record}
 use Rattle.adf_format.specs.SoundPart.{format_in}
 use Rattle.adf_format.specs.Tiles.{end_of}
-use Rattle.adf_format.specs.Tree.{Tree, Node, IsTree, IsNode, IsNumbered, IsAmong, node_at, name_at, name_of, children_at, children_of as kids_of}
+use Rattle.adf_format.specs.Tree.{Tree, Node, IsNode, IsNumbered, IsAmong, name_at, name_of, children_at, children_of as kids_of}
 use Rattle.adf_format.specs.Verdict.{ListsNodes}
 use Rattle.adf_format.proofs.ClosureLaws.{IsIn, in_left, in_right}
 use Rattle.adf_format.proofs.FieldLaws.{inner_field}
@@ -52,7 +50,7 @@ use Rattle.node_reads.proofs.LaidOut.{header_within, header_kept_none, table_end
 use Rattle.layout_lint.specs.declared.verdict.NodePlace.{NodePlace}
 use Rattle.layout_lint.specs.Walks.{node_place}
 use Rattle.layout_lint.proofs.OwnerParts.{HasParts, has_parts}
-use Rattle.adf_repack.specs.Copies.{IsHeaderOf, numbers_in, position_in}
+use Rattle.adf_repack.specs.Copies.{IsHeaderOf, position_in}
 use Rattle.adf_repack.specs.Families.{children_of}
 use Rattle.adf_repack.specs.Given.{HasName, HasChunk, HoldsData, IsGivenNode, IsGiven}
 use Rattle.adf_repack.specs.Payloads.{chunk_of, entry_at, chunk_at, payload_length, payload_at, payloads_of}

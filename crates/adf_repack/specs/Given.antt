@@ -1,5 +1,5 @@
 -- The tree that some nodes of a file make, of which the places are given: it is that of the whole file, or a part of it.
-use Rattle.std.specs.Prelude.{◌≡◌, ◌≢◌, ℕ, ◌+◌, ◌-◌, ◌*◌, ◌^◌, ◌<◌, ◌≤◌, Bool, true, false, List, length, map, take, slice_get, Option, None, Some}
+use Rattle.std.specs.Prelude.{◌≡◌, ◌≢◌, ℕ, ◌+◌, ◌-◌, ◌*◌, ◌^◌, ◌<◌, ◌≤◌, Bool, true, List, length, map, take, slice_get, Option, None, Some}
 use Rattle.std.specs.List.{Contains}
 use Rattle.adf_format.specs.declared.fields.TheConstants.{CHUNK_START}
 use Rattle.adf_format.specs.declared.types.Extent.{Extent}

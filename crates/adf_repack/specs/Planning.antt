@@ -16,7 +16,7 @@ use Rattle.adf_repack.specs.Families.{children_of, IsChain}
 use Rattle.adf_repack.specs.Sources.{IsUnread, IsBroken}
 use Rattle.adf_repack.specs.Places.{limited, length_of}
 use Rattle.adf_repack.specs.Plans.{IsPlan, header_at, copied_until}
-use Rattle.adf_repack.specs.Measures.{WhereTold, HoldsNone, HoldsSome, AllFit, AreMeasured, AreUnmeasured}
+use Rattle.adf_repack.specs.Measures.{HoldsNone, HoldsSome, AllFit, AreMeasured, AreUnmeasured}
 
 -- The shapes of the nodes, for all whose dimensions the version has digits, and the bytes that a copy of them takes.
 pub record IsRoomFor (held : Option (List ℕ)) (wide to : Bool) (nodes : List NodePlace) (shapes : List NodeShape) (size : ℕ) : Type 0 where

@@ -1,4 +1,4 @@
-use Rattle.std.proofs.Common.{◌≡◌, ◌∙◌, ap, sym, ℕ, List, Bool, Option, None, Some, take}
+use Rattle.std.proofs.Common.{◌∙◌, ap, sym, ℕ, List, Bool, Option, None, Some, take}
 use Rattle.std.specs.Prelude.{cond}
 use Rattle.std.proofs.lemmas.Bool.{ne_eqb}
 use Rattle.adf_format.specs.Names.{data_size}

@@ -1,4 +1,4 @@
-use Rattle.std.proofs.Common.{◌≡◌, ap, refl, sym, rules, subst, inr}
+use Rattle.std.proofs.Common.{◌≡◌, refl, sym, rules, subst, inr}
 use Rattle.adf_records.specs.View.{record_of}
 use Rattle.adf_format.specs.Records.{NodeRecord}
 use Rattle.adf_repack.specs.Plans.{HasLong, record_at}

@@ -1,4 +1,4 @@
-use Rattle.std.proofs.Common.{◌≡◌, ◌∙◌, ap, inl, inr, List, Option, ℕ, Some}
+use Rattle.std.proofs.Common.{◌∙◌, inl, inr}
 use Rattle.adf_format.specs.FirstFault.{header_rows as file_rows}
 use Rattle.node_reads.specs.Reads.{Breaks}
 use Rattle.adf_repack.proofs.CauseLaws.{cause_said}

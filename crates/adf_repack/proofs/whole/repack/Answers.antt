@@ -1,4 +1,4 @@
-use Rattle.std.proofs.Common.{◌≡◌, ◌+◌, ◌^◌, ◌<◌, ◌≤◌, ◌∙◌, refl, sym, subst, inl, inr, ℕ, List, length}
+use Rattle.std.proofs.Common.{◌+◌, ◌^◌, ◌<◌, ◌≤◌, ◌∙◌, refl, sym, subst, inl, inr, ℕ, List, length}
 use Rattle.adf_format.specs.Parts.{node_length}
 use Rattle.layout_lint.specs.declared.verdict.NodePlace.{NodePlace}
 use Rattle.adf_repack.specs.Families.{AreParents}

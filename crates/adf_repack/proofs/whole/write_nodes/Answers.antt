@@ -1,4 +1,4 @@
-use Rattle.std.proofs.Common.{◌≡◌, ◌∙◌, ap, sym, subst, inl, Bool, List, ℕ, Option, Some}
+use Rattle.std.proofs.Common.{◌∙◌, ap, sym, subst, inl, Bool, List, ℕ, Option}
 use Rattle.adf_repack.specs.Planning.{IsPlanned, copied_file}
 use Rattle.adf_repack.specs.Plans.{BreaksOne}
 use Rattle.adf_repack.specs.Repacks.{IsCopied, IsRefused}
