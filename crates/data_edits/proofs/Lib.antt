@@ -1,0 +1,14 @@
+pub mod Founds
+pub mod Causes
+pub mod Owned
+pub mod Shapes
+pub mod Reshaping
+pub mod Settling
+pub mod Edited
+pub mod Costs
+pub mod ShapeDone
+pub mod NewData
+pub mod PutTests
+pub mod PutDone
+pub mod Counts
+pub mod PutFacts

@@ -1,0 +1,98 @@
+use Rattle.std.proofs.Common.{sym, ◌∙◌, ap, subst, arith, refl, Some}
+use Rattle.std.specs.Prelude.{Err, IfSome}
+use Rattle.cg_io.specs.Waits.{how_many}
+use Rattle.cg_io.proofs.ReadLaws.{few_only, only_then}
+use Rattle.file_heap.specs.Heap.{IsThreaded}
+use Rattle.data_edits.specs.Puts.{Part}
+use Rattle.data_edits.proofs.Causes.{threaded}
+use Rattle.data_edits.proofs.Costs.{put_at_most}
+use Rattle.data_edits.proofs.ShapeDone.{moved_both, where_ok, all_refused}
+use Rattle.data_edits.proofs.PutDone.{one_put, data_is_cause, refused_length, length_cause, refused_put, put_cause, refused_write, write_cause, done, moved_put, moved_exact}
+use Rattle.data_edits.proofs.PutFacts.{size_is, some_is, all_fills, all_change}
+use Rattle.data_edits.proofs.put.put_all.Goals as goal
+
+pub returns-in-Err-clause-refused : goal.returns-in-Err-clause-refused
+returns-in-Err-clause-refused g c =
+    one_put c.args.core.now c.args.node Part.Whole c.args.bytes.now (g.S.ReadBytes.image c.args.space.now) c.in-Err.error c.in-Err.ensures.refused
+
+pub returns-in-Err-clause-effect : goal.returns-in-Err-clause-effect
+returns-in-Err-clause-effect g c =
+    few_only 2 _ _ c.in-Err.ensures.reads.effect
+
+pub returns-in-Err-clause-cause : goal.returns-in-Err-clause-cause
+returns-in-Err-clause-cause g c =
+    data_is_cause c.args.core.now c.args.node Part.Whole c.args.bytes.now (g.S.ReadBytes.image c.args.space.now) _ _ c.in-Err.error c.in-Err.ensures.reads.cause
+
+pub returns-in-Err-check_length-clause-refused : goal.returns-in-Err-check_length-clause-refused
+returns-in-Err-check_length-clause-refused g c =
+    refused_length c.args.core.now c.args.node Part.Whole c.args.bytes.now c.in-Ok.data.found.row c.in-Ok.data.found.header (g.S.ReadBytes.image c.args.space.now) c.in-Ok.ensures.may refl c.size.result (size_is c.in-Ok.data.found.header c.in-Ok.data.shape c.in-Ok.ensures.shape c.in-Ok.ensures.may.small c.size.result c.size.ensures) c.in-Err-check_length.error c.in-Err-check_length.ensures.refused.0 c.in-Err-check_length.ensures.refused.1
+
+pub returns-in-Err-check_length-clause-effect : goal.returns-in-Err-check_length-clause-effect
+returns-in-Err-check_length-clause-effect g c =
+    few_only 2 _ _ c.in-Ok.ensures.reads.effect
+
+pub returns-in-Err-check_length-clause-cause : goal.returns-in-Err-check_length-clause-cause
+returns-in-Err-check_length-clause-cause g c =
+    length_cause c.args.core.now c.args.node Part.Whole c.args.bytes.now c.in-Ok.data.found.row c.in-Ok.data.found.header (g.S.ReadBytes.image c.args.space.now) c.in-Ok.ensures.may refl c.size.result (size_is c.in-Ok.data.found.header c.in-Ok.data.shape c.in-Ok.ensures.shape c.in-Ok.ensures.may.small c.size.result c.size.ensures) _ _ c.in-Err-check_length.error c.in-Err-check_length.ensures.refused.0 c.in-Err-check_length.ensures.refused.1
+
+pub place_whole-requires-clause-size : goal.place_whole-requires-clause-size
+place_whole-requires-clause-size g c =
+    c.in-Ok-check_length.ensures.same ∙ (size_is c.in-Ok.data.found.header c.in-Ok.data.shape c.in-Ok.ensures.shape c.in-Ok.ensures.may.small c.size.result c.size.ensures)
+
+pub place_whole-requires-clause-some : goal.place_whole-requires-clause-some
+place_whole-requires-clause-some g c =
+    let some = some_is c.in-Ok.data.found.header c.in-Ok.data.shape c.in-Ok.ensures.shape c.in-Ok.ensures.may.small c.size.result c.size.ensures c.in-Ok.ensures.may.filled c.in-Ok.ensures.good in let same = c.in-Ok-check_length.ensures.same in omega (arith, some, same)
+
+pub place_whole-requires-clause-small : goal.place_whole-requires-clause-small
+place_whole-requires-clause-small g c =
+    let e = (size_is c.in-Ok.data.found.header c.in-Ok.data.shape c.in-Ok.ensures.shape c.in-Ok.ensures.may.small c.size.result c.size.ensures) in let few = c.in-Ok.ensures.may.small in let same = c.in-Ok-check_length.ensures.same in omega (arith, e, few, same)
+
+pub place_whole-requires-clause-threads : goal.place_whole-requires-clause-threads
+place_whole-requires-clause-threads g c =
+    subst (λ held. IfSome held (IsThreaded c.args.core.now.heap.work)) (sym c.in-Ok.ensures.reads.bytes) (threaded c.args.core.now (g.S.ReadBytes.image c.args.space.now) c.requires.means)
+
+pub returns-in-Err-place_whole-clause-refused : goal.returns-in-Err-place_whole-clause-refused
+returns-in-Err-place_whole-clause-refused g c =
+    refused_put c.args.core.now c.args.node Part.Whole c.args.bytes.now c.in-Ok.data.found.row c.in-Ok.data.found.header (λ was. Some c.args.bytes.now) (all_change c.args.core.now c.args.node c.args.bytes.now c.in-Ok.data.found.header) (g.S.ReadBytes.image c.args.space.now) (all_fills c.args.core.now c.args.node c.args.bytes.now (g.S.ReadBytes.image c.args.space.now) c.in-Ok.data.found.row c.in-Ok.data.found.header (c.in-Ok-check_length.ensures.same ∙ (size_is c.in-Ok.data.found.header c.in-Ok.data.shape c.in-Ok.ensures.shape c.in-Ok.ensures.may.small c.size.result c.size.ensures)) c.in-Ok.ensures.may) _ _ c.in-Err-place_whole.error
+    (moved_put c.args.core.now c.in-Ok.data.found.header (g.S.ReadBytes.image c.args.space.now) (g.S.ReadBytes.image c.find_data.new.bytes) c.in-Ok.ensures.reads.bytes _ _ c.in-Err-place_whole.error c.in-Err-place_whole.ensures.cause)
+    (moved_exact c.args.core.now (λ was. Some c.args.bytes.now) c.in-Ok.data.found.header (g.S.ReadBytes.image c.args.space.now) (g.S.ReadBytes.image c.find_data.new.bytes) c.in-Ok.ensures.reads.bytes (Err c.in-Err-place_whole.error) c.in-Err-place_whole.error refl c.in-Err-place_whole.ensures.exact)
+
+pub returns-in-Err-place_whole-clause-effect : goal.returns-in-Err-place_whole-clause-effect
+returns-in-Err-place_whole-clause-effect g c =
+    only_then _ _ _ (few_only 2 _ _ c.in-Ok.ensures.reads.effect) c.in-Err-place_whole.ensures.effect
+
+pub returns-in-Err-place_whole-clause-cause : goal.returns-in-Err-place_whole-clause-cause
+returns-in-Err-place_whole-clause-cause g c =
+    put_cause c.args.core.now c.args.node Part.Whole c.args.bytes.now c.in-Ok.data.found.row c.in-Ok.data.found.header (g.S.ReadBytes.image c.args.space.now) (all_fills c.args.core.now c.args.node c.args.bytes.now (g.S.ReadBytes.image c.args.space.now) c.in-Ok.data.found.row c.in-Ok.data.found.header (c.in-Ok-check_length.ensures.same ∙ (size_is c.in-Ok.data.found.header c.in-Ok.data.shape c.in-Ok.ensures.shape c.in-Ok.ensures.may.small c.size.result c.size.ensures)) c.in-Ok.ensures.may) _ _ _ c.in-Err-place_whole.error (few_only 2 _ _ c.in-Ok.ensures.reads.effect).faults
+    (moved_put c.args.core.now c.in-Ok.data.found.header (g.S.ReadBytes.image c.args.space.now) (g.S.ReadBytes.image c.find_data.new.bytes) c.in-Ok.ensures.reads.bytes _ _ c.in-Err-place_whole.error c.in-Err-place_whole.ensures.cause)
+
+pub returns-clause-done : goal.returns-clause-done
+returns-clause-done g c =
+    done c.args.core.now c.args.node Part.Whole c.args.bytes.now c.in-Ok.data.found.row c.in-Ok.data.found.header (λ was. Some c.args.bytes.now) (all_change c.args.core.now c.args.node c.args.bytes.now c.in-Ok.data.found.header) c.write_chunks.result (record { heap = c.place_whole.new.heap; rows = c.args.core.now.rows; wide = c.args.core.now.wide; writable = c.args.core.now.writable })
+    c.in-Ok-place_whole.at c.place_whole.new.heap.work (g.S.ReadBytes.image c.args.space.now) (g.S.ReadBytes.image c.place_whole.new.space) (g.S.ReadBytes.image c.write_chunks.new.space) (all_fills c.args.core.now c.args.node c.args.bytes.now (g.S.ReadBytes.image c.args.space.now) c.in-Ok.data.found.row c.in-Ok.data.found.header (c.in-Ok-check_length.ensures.same ∙ (size_is c.in-Ok.data.found.header c.in-Ok.data.shape c.in-Ok.ensures.shape c.in-Ok.ensures.may.small c.size.result c.size.ensures)) c.in-Ok.ensures.may)
+    (moved_both _ (g.S.ReadBytes.image c.args.space.now) (g.S.ReadBytes.image c.find_data.new.bytes) (g.S.ReadBytes.image c.place_whole.new.space) c.in-Ok.ensures.reads.bytes c.in-Ok-place_whole.ensures.becomes)
+    c.write_chunks.ensures.few c.write_chunks.ensures.written refl refl refl
+
+pub returns-clause-allowed : goal.returns-clause-allowed
+returns-clause-allowed g c =
+    where_ok c.write_chunks.result _ (c.in-Ok.data.found.row, c.in-Ok.data.found.header, all_fills c.args.core.now c.args.node c.args.bytes.now (g.S.ReadBytes.image c.args.space.now) c.in-Ok.data.found.row c.in-Ok.data.found.header (c.in-Ok-check_length.ensures.same ∙ (size_is c.in-Ok.data.found.header c.in-Ok.data.shape c.in-Ok.ensures.shape c.in-Ok.ensures.may.small c.size.result c.size.ensures)) c.in-Ok.ensures.may)
+
+pub returns-clause-refused : goal.returns-clause-refused
+returns-clause-refused g c =
+    all_refused c.write_chunks.result _ _ (λ e x. refused_write c.args.core.now c.args.node Part.Whole c.args.bytes.now c.in-Ok.data.found.row c.in-Ok.data.found.header (g.S.ReadBytes.image c.args.space.now) (all_fills c.args.core.now c.args.node c.args.bytes.now (g.S.ReadBytes.image c.args.space.now) c.in-Ok.data.found.row c.in-Ok.data.found.header (c.in-Ok-check_length.ensures.same ∙ (size_is c.in-Ok.data.found.header c.in-Ok.data.shape c.in-Ok.ensures.shape c.in-Ok.ensures.may.small c.size.result c.size.ensures)) c.in-Ok.ensures.may) _ _ e x) c.write_chunks.ensures.writes.cause
+
+pub returns-clause-effect : goal.returns-clause-effect
+returns-clause-effect g c =
+    only_then _ _ _ (only_then _ _ _ (few_only 2 _ _ c.in-Ok.ensures.reads.effect) c.in-Ok-place_whole.ensures.effect) (few_only 2 _ _ c.write_chunks.ensures.writes.effect)
+
+pub returns-clause-waits : goal.returns-clause-waits
+returns-clause-waits g c =
+    where_ok c.write_chunks.result _ (c.in-Ok.data.found.row, c.in-Ok.data.found.header, all_fills c.args.core.now c.args.node c.args.bytes.now (g.S.ReadBytes.image c.args.space.now) c.in-Ok.data.found.row c.in-Ok.data.found.header (c.in-Ok-check_length.ensures.same ∙ (size_is c.in-Ok.data.found.header c.in-Ok.data.shape c.in-Ok.ensures.shape c.in-Ok.ensures.may.small c.size.result c.size.ensures)) c.in-Ok.ensures.may, omega (arith, ap how_many c.in-Ok.ensures.reads.waits, c.in-Ok-place_whole.ensures.waits, c.write_chunks.ensures.writes.waits))
+
+pub returns-clause-costs : goal.returns-clause-costs
+returns-clause-costs g c =
+    where_ok c.write_chunks.result _ (put_at_most c.args.core.now c.args.node Part.Whole c.args.bytes.now c.in-Ok.data.found.row c.in-Ok.data.found.header (g.S.ReadBytes.image c.args.space.now) (all_fills c.args.core.now c.args.node c.args.bytes.now (g.S.ReadBytes.image c.args.space.now) c.in-Ok.data.found.row c.in-Ok.data.found.header (c.in-Ok-check_length.ensures.same ∙ (size_is c.in-Ok.data.found.header c.in-Ok.data.shape c.in-Ok.ensures.shape c.in-Ok.ensures.may.small c.size.result c.size.ensures)) c.in-Ok.ensures.may) _ _ (omega (arith, ap how_many c.in-Ok.ensures.reads.waits, c.in-Ok-place_whole.ensures.waits, c.write_chunks.ensures.writes.waits)))
+
+pub returns-clause-cause : goal.returns-clause-cause
+returns-clause-cause g c =
+    all_refused c.write_chunks.result _ _ (λ e x. write_cause c.args.core.now c.args.node Part.Whole c.args.bytes.now c.in-Ok.data.found.row c.in-Ok.data.found.header (g.S.ReadBytes.image c.args.space.now) (all_fills c.args.core.now c.args.node c.args.bytes.now (g.S.ReadBytes.image c.args.space.now) c.in-Ok.data.found.row c.in-Ok.data.found.header (c.in-Ok-check_length.ensures.same ∙ (size_is c.in-Ok.data.found.header c.in-Ok.data.shape c.in-Ok.ensures.shape c.in-Ok.ensures.may.small c.size.result c.size.ensures)) c.in-Ok.ensures.may) _ _ _ e (only_then _ _ _ (few_only 2 _ _ c.in-Ok.ensures.reads.effect) c.in-Ok-place_whole.ensures.effect).faults x) c.write_chunks.ensures.writes.cause

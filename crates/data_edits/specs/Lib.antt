@@ -1,0 +1,4 @@
+pub mod Found
+pub mod Becomes
+pub mod Shaped
+pub mod Puts
