@@ -1,0 +1,16 @@
+pub mod Climbs
+pub mod Shifted
+pub mod BelowTree
+pub mod RowsMoved
+pub mod Found
+pub mod Tested
+pub mod Refused
+pub mod MoveTexts
+pub mod Stays
+pub mod Owned
+pub mod MoveFacts
+pub mod MoveWhole
+pub mod MoveDone
+pub mod Relinked
+pub mod Calls
+pub mod ListTexts

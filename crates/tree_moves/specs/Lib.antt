@@ -1,0 +1,4 @@
+pub mod Below
+pub mod Movable
+pub mod Relisted
+pub mod Moved
