@@ -57,7 +57,7 @@ pub breaks_rule : (wide : Bool) (held : Option (List ℕ)) (place rule at : ℕ)
 breaks_rule wide held place rule at (inl b) = header_rule wide held place rule at b
 breaks_rule wide held place rule at (inr b) = table_rule b.header place (record { rule = rule; place = at }) b.fails
 
-unlisted_rule : (core : Core) (held : Option (List ℕ)) (place parent rule at : ℕ) → IsUnlisted core held place parent rule at → IsRule rule
+pub unlisted_rule : (core : Core) (held : Option (List ℕ)) (place parent rule at : ℕ) → IsUnlisted core held place parent rule at → IsRule rule
 unlisted_rule core held place parent rule at (inl b) = breaks_rule core.wide held b.above.place rule at b.breaks
 unlisted_rule core held place parent rule at (inr b) = let e = b.0 in (omega (arith, e), omega (arith, e))
 
@@ -150,7 +150,7 @@ pub table_reads : (IsIts : ChildTable → Type 0) (times few : ℕ) (old new : D
 table_reads IsIts times few old new (inl r) = few_only few old new r
 table_reads IsIts times few old new (inr r) = few_only (2 * times * pieces_of r.0.count + few) old new r.2
 
-same_core : (core : Core) → KeepsCore core core
+pub same_core : (core : Core) → KeepsCore core core
 same_core core = record { rows = refl; heap = refl; limit = refl; wide = refl; writable = refl }
 
 -- few blocks more are within what an edit costs

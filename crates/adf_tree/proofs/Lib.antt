@@ -14,3 +14,4 @@ pub mod Grouping
 pub mod AskLooks
 pub mod AskWalks
 pub mod AskEnds
+pub mod DeletesAnswer

@@ -2,7 +2,7 @@
 use Rattle.std.proofs.Common.{◌≡◌, refl, sym, ◌∙◌, ap, List, ℕ}
 use Rattle.std.specs.Prelude.{Option, Some, None}
 use Rattle.adf_model.specs.declared.tree.Edit.{Edit}
-use Rattle.adf_model.specs.declared.tree.Edit.TheVariants.{Create, Link, Rename, SetLabel}
+use Rattle.adf_model.specs.declared.tree.Edit.TheVariants.{Create, Delete, Link, Rename, SetLabel}
 use Rattle.adf_model.specs.declared.tree.NodeId.{NodeId}
 use Rattle.adf_tree.specs.Reached.{or_reached, with_reached}
 
@@ -42,3 +42,10 @@ pub reached_link : (edit : Edit) (there : Option NodeId) (at node : NodeId) (nam
 reached_link edit there at node name file path given to_file to_path is to same also last =
     ap (λ (n : NodeId). Link n given to_file to_path) to ∙ ap (λ (xs : List ℕ). Link (or_reached at there) xs to_file to_path) same ∙ ap (λ (xs : List ℕ). Link (or_reached at there) name xs to_path) also
     ∙ ap (λ (xs : List ℕ). Link (or_reached at there) name file xs) last ∙ reached_linked at name file path there ∙ ap (λ (e : Edit). with_reached e there) (sym is)
+
+deleted_still : (node : NodeId) (there : Option NodeId) → Delete node ≡ with_reached (Delete node) there
+deleted_still node None = refl
+deleted_still node (Some other) = refl
+
+pub reached_deletion : (edit : Edit) (there : Option NodeId) (node : NodeId) → edit ≡ Delete node → Delete node ≡ with_reached edit there
+reached_deletion edit there node is = deleted_still node there ∙ ap (λ (e : Edit). with_reached e there) (sym is)

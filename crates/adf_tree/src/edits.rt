@@ -9,9 +9,12 @@ ghost use Rattle.tree_edits.specs.Edits.{memory_of};
 ghost use Rattle.tree_edits.specs.Rows.{AreNear, Means};
 ghost use Rattle.adf_tree.specs.Steps.{EditAnswers, IsBuilt};
 
+use crate::hints::hints_of;
 use adf_model::{AdfError, Edit, NodeId};
 use cg_io::Space;
 use std::alloc::Global;
+use tree_asks::Hints;
+use tree_deletes::delete;
 use tree_edits::{Core, create, link, rename, set_label};
 
 // The node that was reached, where one was.
@@ -104,6 +107,49 @@ fn new_link<S: Space>(
     }
 }
 
+fn delete_known<S: Space>(
+    alloc: Global,
+    space: &mut S,
+    core: &mut Core,
+    hints: &Hints,
+    node: NodeId,
+) -> Result<Option<u64>, AdfError>
+    requires sound { S.is_sound space.old }
+    requires near { AreNear core.old.wide core.old.rows.items }
+    requires means { IfSome (S.image space.old)
+        (λ bytes. (tree : Tree) × (p : Placement) × Means bytes tree p (memory_of core.old)) }
+    ensures { EditAnswers S.is_sound S.image S.state S.waiting (Edit.Delete node)
+        core.old core.new space.old space.new result }
+{
+    match delete(alloc, space, core, hints, node) {
+        Ok(()) => Ok(None),
+        Err(error) => Err(error),
+    }
+}
+
+fn delete_node<S: Space>(
+    alloc: Global,
+    space: &mut S,
+    core: &mut Core,
+    hints: &mut Option<Hints>,
+    node: NodeId,
+) -> Result<Option<u64>, AdfError>
+    requires sound { S.is_sound space.old }
+    requires near { AreNear core.old.wide core.old.rows.items }
+    requires means { IfSome (S.image space.old)
+        (λ bytes. (tree : Tree) × (p : Placement) × Means bytes tree p (memory_of core.old)) }
+    ensures { EditAnswers S.is_sound S.image S.state S.waiting (Edit.Delete node)
+        core.old core.new space.old space.new result }
+{
+    let known = match hints_of(alloc, hints, &core.rows) {
+        Ok(known) => known,
+        Err(error) => return Err(error),
+    };
+    let deleted = delete_known(alloc, space, core, &known, node);
+    *hints = Some(known);
+    deleted
+}
+
 /// Does one edit, of the node that was reached where it goes through links: the serial that it drew.
 ///
 /// After a refusal the caller abandons what was written to the space, and undoes what is in memory.
@@ -111,6 +157,7 @@ pub(crate) fn do_edit<S: Space>(
     alloc: Global,
     space: &mut S,
     core: &mut Core,
+    hints: &mut Option<Hints>,
     edit: &Edit,
     there: Option<NodeId>,
 ) -> Result<Option<u64>, AdfError>
@@ -134,6 +181,7 @@ pub(crate) fn do_edit<S: Space>(
             name.items(),
             label.items(),
         ),
+        Edit::Delete { node } => delete_node(alloc, space, core, hints, *node),
         Edit::Rename { node, name } => new_name(space, core, *node, name.items()),
         Edit::SetLabel { node, label } => {
             new_label(space, core, or_reached(*node, there), label.items())

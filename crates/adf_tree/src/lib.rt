@@ -8,6 +8,7 @@ mod file;
 mod fresh;
 mod groups;
 mod headers;
+mod hints;
 mod looks;
 mod opening;
 mod steps;

@@ -12,24 +12,10 @@ ghost use Rattle.adf_tree.specs.Headers.{Looks};
 
 use crate::asks::answer;
 use crate::file::AdfFile;
+use crate::hints::hints_of;
 use adf_model::{AdfError, NodeId, Query, Reply, Text};
 use cg_io::Device;
-use std::alloc::Global;
-use tree_asks::{Hints, answer_at, child_at, text_at};
-use tree_edits::Rows;
-
-// The hints that are kept, or new ones.
-fn hints_of(alloc: Global, hints: &mut Option<Hints>, rows: &Rows) -> Result<Hints, AdfError>
-    ensures { IfErr result (λ e. e ≡ AdfError.Memory) }
-{
-    match hints.take() {
-        Some(hints) => Ok(hints),
-        None => match Hints::new(alloc, rows) {
-            Ok(hints) => Ok(hints),
-            Err(_) => Err(AdfError::Memory),
-        },
-    }
-}
+use tree_asks::{answer_at, child_at, text_at};
 
 impl<D: Device> AdfFile<D> {
     /// The answer to a query on the tree in work. The file part of its node is not looked at, and no link is followed:

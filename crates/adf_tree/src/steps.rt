@@ -6,25 +6,9 @@ ghost use Rattle.adf_tree.specs.Steps.{IsBuilt, StepEnds};
 
 use crate::edits::do_edit;
 use crate::file::AdfFile;
+use crate::hints::add_hint;
 use adf_model::{AdfError, Edit, NodeId};
 use cg_io::Device;
-use tree_asks::Hints;
-use tree_edits::Rows;
-
-// Notes where the header of a new node stands. A hint that finds no memory is missed, which costs time alone.
-fn add_hint(hints: &mut Option<Hints>, rows: &Rows, serial: Option<u64>) {
-    let serial = match serial {
-        Some(serial) => serial,
-        None => return,
-    };
-    let row = match rows.get(serial) {
-        Some(row) => row,
-        None => return,
-    };
-    if let Some(hints) = hints {
-        let _ = hints.add(row.place, serial);
-    }
-}
 
 impl<D: Device> AdfFile<D> {
     /// Does one edit on the tree in work: the serial that it drew. It waits until a commit or an undo.
@@ -51,7 +35,14 @@ impl<D: Device> AdfFile<D> {
         if self.broken {
             return Err(AdfError::Broken);
         }
-        match do_edit(self.alloc, &mut self.draft, &mut self.core, edit, there) {
+        match do_edit(
+            self.alloc,
+            &mut self.draft,
+            &mut self.core,
+            &mut self.hints,
+            edit,
+            there,
+        ) {
             Ok(serial) => {
                 self.steps = self.steps.and(edit, &there);
                 add_hint(&mut self.hints, &self.core.rows, serial);

@@ -1,7 +1,7 @@
 use Rattle.std.proofs.Common.{subst}
 use Rattle.adf_model.specs.declared.tree.Edit.{Edit}
 use Rattle.adf_tree.specs.Steps.{EditAnswers}
-use Rattle.adf_tree.proofs.ReachedEdits.{reached_create, reached_label, reached_link, reached_name}
+use Rattle.adf_tree.proofs.ReachedEdits.{reached_create, reached_deletion, reached_label, reached_link, reached_name}
 use Rattle.adf_tree.proofs.edits.do_edit.Goals as goal
 
 pub returns-in-Create : goal.returns-in-Create
@@ -23,3 +23,8 @@ pub returns-in-Link : goal.returns-in-Link
 returns-in-Link g c =
     subst (λ (e : Edit). EditAnswers g.S.ReadBytes.is_sound g.S.ReadBytes.image g.S.ReadBytes.state g.S.ReadBytes.waiting e c.args.core.now c.new_link.new.core c.args.space.now c.new_link.new.space c.new_link.result)
     (reached_link c.args.edit.now c.args.there _ _ _ _ _ _ _ _ c.in-Link.is c.or_reached-in-Link.ensures c.items-in-Link.ensures c.items-in-Link-2.ensures c.items-in-Link-3.ensures) c.new_link.ensures
+
+pub returns-in-Delete : goal.returns-in-Delete
+returns-in-Delete g c =
+    subst (λ (e : Edit). EditAnswers g.S.ReadBytes.is_sound g.S.ReadBytes.image g.S.ReadBytes.state g.S.ReadBytes.waiting e c.args.core.now c.delete_node.new.core c.args.space.now c.delete_node.new.space c.delete_node.result)
+    (reached_deletion c.args.edit.now c.args.there _ c.in-Delete.is) c.delete_node.ensures
