@@ -15,3 +15,4 @@ pub mod AskLooks
 pub mod AskWalks
 pub mod AskEnds
 pub mod DeletesAnswer
+pub mod MovesAnswer

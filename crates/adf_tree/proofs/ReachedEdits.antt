@@ -2,7 +2,7 @@
 use Rattle.std.proofs.Common.{◌≡◌, refl, sym, ◌∙◌, ap, List, ℕ}
 use Rattle.std.specs.Prelude.{Option, Some, None}
 use Rattle.adf_model.specs.declared.tree.Edit.{Edit}
-use Rattle.adf_model.specs.declared.tree.Edit.TheVariants.{Create, Delete, Link, Rename, SetLabel}
+use Rattle.adf_model.specs.declared.tree.Edit.TheVariants.{Create, Delete, Link, Move, Rename, SetLabel}
 use Rattle.adf_model.specs.declared.tree.NodeId.{NodeId}
 use Rattle.adf_tree.specs.Reached.{or_reached, with_reached}
 
@@ -49,3 +49,10 @@ deleted_still node (Some other) = refl
 
 pub reached_deletion : (edit : Edit) (there : Option NodeId) (node : NodeId) → edit ≡ Delete node → Delete node ≡ with_reached edit there
 reached_deletion edit there node is = deleted_still node there ∙ ap (λ (e : Edit). with_reached e there) (sym is)
+
+moved_there : (node at : NodeId) (there : Option NodeId) → Move node (or_reached at there) ≡ with_reached (Move node at) there
+moved_there node at None = refl
+moved_there node at (Some other) = refl
+
+pub reached_move : (edit : Edit) (there : Option NodeId) (node at to : NodeId) → edit ≡ Move node at → to ≡ or_reached at there → Move node to ≡ with_reached edit there
+reached_move edit there node at to is reached = ap (Move node) reached ∙ moved_there node at there ∙ ap (λ (e : Edit). with_reached e there) (sym is)

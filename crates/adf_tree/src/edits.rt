@@ -16,6 +16,7 @@ use std::alloc::Global;
 use tree_asks::Hints;
 use tree_deletes::delete;
 use tree_edits::{Core, create, link, rename, set_label};
+use tree_moves::move_to;
 
 // The node that was reached, where one was.
 fn or_reached(node: NodeId, there: Option<NodeId>) -> NodeId
@@ -107,6 +108,25 @@ fn new_link<S: Space>(
     }
 }
 
+fn move_node<S: Space>(
+    space: &mut S,
+    core: &mut Core,
+    node: NodeId,
+    at: NodeId,
+) -> Result<Option<u64>, AdfError>
+    requires sound { S.is_sound space.old }
+    requires near { AreNear core.old.wide core.old.rows.items }
+    requires means { IfSome (S.image space.old)
+        (λ bytes. (tree : Tree) × (p : Placement) × Means bytes tree p (memory_of core.old)) }
+    ensures { EditAnswers S.is_sound S.image S.state S.waiting (Edit.Move node at)
+        core.old core.new space.old space.new result }
+{
+    match move_to(space, core, node, at) {
+        Ok(()) => Ok(None),
+        Err(error) => Err(error),
+    }
+}
+
 fn delete_known<S: Space>(
     alloc: Global,
     space: &mut S,
@@ -182,6 +202,7 @@ pub(crate) fn do_edit<S: Space>(
             label.items(),
         ),
         Edit::Delete { node } => delete_node(alloc, space, core, hints, *node),
+        Edit::Move { node, parent } => move_node(space, core, *node, or_reached(*parent, there)),
         Edit::Rename { node, name } => new_name(space, core, *node, name.items()),
         Edit::SetLabel { node, label } => {
             new_label(space, core, or_reached(*node, there), label.items())

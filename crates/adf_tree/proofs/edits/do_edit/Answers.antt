@@ -1,7 +1,7 @@
 use Rattle.std.proofs.Common.{subst}
 use Rattle.adf_model.specs.declared.tree.Edit.{Edit}
 use Rattle.adf_tree.specs.Steps.{EditAnswers}
-use Rattle.adf_tree.proofs.ReachedEdits.{reached_create, reached_deletion, reached_label, reached_link, reached_name}
+use Rattle.adf_tree.proofs.ReachedEdits.{reached_create, reached_deletion, reached_label, reached_link, reached_move, reached_name}
 use Rattle.adf_tree.proofs.edits.do_edit.Goals as goal
 
 pub returns-in-Create : goal.returns-in-Create
@@ -28,3 +28,8 @@ pub returns-in-Delete : goal.returns-in-Delete
 returns-in-Delete g c =
     subst (λ (e : Edit). EditAnswers g.S.ReadBytes.is_sound g.S.ReadBytes.image g.S.ReadBytes.state g.S.ReadBytes.waiting e c.args.core.now c.delete_node.new.core c.args.space.now c.delete_node.new.space c.delete_node.result)
     (reached_deletion c.args.edit.now c.args.there _ c.in-Delete.is) c.delete_node.ensures
+
+pub returns-in-Move : goal.returns-in-Move
+returns-in-Move g c =
+    subst (λ (e : Edit). EditAnswers g.S.ReadBytes.is_sound g.S.ReadBytes.image g.S.ReadBytes.state g.S.ReadBytes.waiting e c.args.core.now c.move_node.new.core c.args.space.now c.move_node.new.space c.move_node.result)
+    (reached_move c.args.edit.now c.args.there _ _ _ c.in-Move.is c.or_reached-in-Move.ensures) c.move_node.ensures
