@@ -1,208 +1,277 @@
--- A line makes at most one call.
-use Rattle.std.proofs.Common.{◌≡◌, ◌≢◌, ℕ, ◌+◌, ◌*◌, ◌<◌, List, [], ◌∷◌, ◌++◌, refl, sym, ◌∙◌, ap, subst, arith, decimal, get_or, Some, Option, All}
+-- The tokens of a line that makes a call are found again by cutting the line at its spaces, and they make one call.
+use Rattle.std.proofs.Common.{◌≡◌, ◌≢◌, ℕ, suc, length, ◌<◌, ◌≤◌, List, [], ◌∷◌, ◌++◌, refl, sym, ◌∙◌, ap, subst, arith, inl, inr, Result, Ok, Err, IfOk, IfErr}
 use Rattle.std.specs.Prelude.{codes}
-use Rattle.std.proofs.lemmas.Fmt.{decimal_injective}
+use Rattle.adf_model.specs.declared.error.AdfError.{AdfError}
+use Rattle.adf_model.specs.declared.error.AdfError.TheVariants.{Syntax}
 use Rattle.adf_model.specs.declared.tree.Edit.{Edit}
-use Rattle.adf_model.specs.declared.tree.Edit.TheVariants.{Create, Delete, Rename, Move, SetLabel, SetDims, PutAll, PutPart, Link}
-use Rattle.adf_model.specs.declared.tree.NodeId.{NodeId}
-use Rattle.adf_model.specs.declared.tree.Query.{Query}
-use Rattle.adf_model.specs.declared.tree.Query.TheVariants.{Name, LabelOf, ShapeOf, ChildrenOf, LinkText, ReadAll, ReadPart, Find, Next, FormatOf, Parent, Target}
-use Rattle.adf_model.specs.Spelling.{text_of, spelled}
-use Rattle.adf_model.proofs.SpellingLemmas.{text_of-spelled}
 use Rattle.call_script.specs.declared.calls.Call.{Call}
 use Rattle.call_script.specs.declared.calls.OpenMode.{OpenMode}
-use Rattle.call_script.specs.declared.calls.OpenMode.TheVariants.{New}
-use Rattle.call_script.specs.declared.words.EditKeyword.{EditKeyword}
-use Rattle.call_script.specs.declared.words.Keyword.{Keyword}
-use Rattle.call_script.specs.Tokens.{cut, mode_word, node_text, IsFileNumber, IsLimit, IsId}
-use Rattle.call_script.specs.Lines.{IsLine, AreTokens, AreQueryTokens, AreGroupTokens, AreEditTokens, CreatesBy, word_of, edit_word_of}
-use Rattle.call_script.proofs.Pieces.{cut_same, decimal_lacks}
-use Rattle.call_script.proofs.CallTokens.{line_tokens}
+use Rattle.call_script.specs.declared.words.CallWord.{CallWord}
+use Rattle.call_script.specs.declared.words.CallWord.TheVariants as calls
+use Rattle.call_script.specs.declared.words.EditWord.{EditWord}
+use Rattle.call_script.specs.Causes.{IsRefusal}
+use Rattle.call_script.specs.Fields.{Kind, Values, Reads, IsNoRead, IsMadeRead}
+use Rattle.call_script.specs.Lines.{Makes, IsEdit, AreEdits, IsGroupCall, IsPlainCall, AreTokens, IsLine, edit_word, edit_fields, edit_of, call_word, call_fields, call_of, group_word}
+use Rattle.call_script.specs.Tokens.{cut, line_of, IsLimit}
+use Rattle.std.proofs.lemmas.List.{append_assoc, length-append}
+use Rattle.call_script.proofs.Pieces.{Lacks, AllLack, cut-joined, joined-cut}
+use Rattle.call_script.proofs.FieldLaws.{same_head, same_tail, lacks_by_test, reads_lack}
+use Rattle.call_script.proofs.Reading.{makes, makes_none, makes_left, makes_no_fields, makes_same}
+use Rattle.call_script.proofs.WordLaws.{edit_apart, call_apart, group_apart, call_lacks, edit_lacks, group_lacks}
 
-same_head : (x y : List ℕ) (xs ys : List (List ℕ)) → x ∷ xs ≡ y ∷ ys → x ≡ y
-same_head x y xs ys e = cc
+-- ---- no space
 
-same_tail : (x y : List ℕ) (xs ys : List (List ℕ)) → x ∷ xs ≡ y ∷ ys → xs ≡ ys
-same_tail x y xs ys e = cc
+edit_lack : (before after : List (List ℕ)) (edit : Edit) → IsEdit before edit after → AllLack 32 after → AllLack 32 before
+edit_lack before after edit h none = subst (AllLack 32) (sym h.word_is) (edit_lacks h.word, reads_lack (edit_fields h.word) h.behind after h.values h.reads none)
 
-same_node : (one other : NodeId) → IsId one → IsId other → node_text one ≡ node_text other → one ≡ other
-same_node one other small short e =
-    let parts = cut_same 46 (decimal one.file) (decimal one.serial) (decimal other.file) (decimal other.serial) (decimal_lacks 46 one.file (omega arith) (omega arith)) (decimal_lacks 46 other.file (omega arith) (omega arith)) e in
-    let files : one.file ≡ other.file = decimal_injective one.file other.file (omega arith) (omega arith) parts.0 in
-    let serials : one.serial ≡ other.serial = decimal_injective one.serial other.serial small.1 short.1 parts.1 in
-    ap (λ file. make file one.serial) files ∙ ap (λ serial. make other.file serial) serials
+edits_lack : (tokens : List (List ℕ)) (edits : List Edit) → AreEdits tokens edits → AllLack 32 tokens
+edits_lack tokens [] h = absurd h
+edits_lack tokens (edit ∷ []) h = edit_lack tokens [] edit h tt
+edits_lack tokens (edit ∷ next ∷ edits) h = edit_lack tokens (codes ";" ∷ h.0) edit h.1 (lacks_by_test (codes ";") refl, edits_lack h.0 (next ∷ edits) h.2)
+
+-- tokens that make a call have no space, and there is one
+pub again : (tokens : List (List ℕ)) (call : Call) → AreTokens tokens call → cut (line_of tokens) ≡ tokens
+again tokens call h =
+    elim h [
+      | inl plain ↦ from tokens (call_word plain.word) plain.behind plain.word_is (call_lacks plain.word) (reads_lack (call_fields plain.word) plain.behind [] plain.values plain.reads tt)
+      | inr group ↦ from tokens group_word group.1 group.2 group_lacks (edits_lack group.1 group.0 group.3)
+    ]
   where
-    make : ℕ → ℕ → NodeId
-    make file serial = record { file = file; serial = serial }
+    from : (tokens : List (List ℕ)) (token : List ℕ) (others : List (List ℕ)) → tokens ≡ token ∷ others → Lacks 32 token → AllLack 32 others → cut (line_of tokens) ≡ tokens
+    from tokens token others e lacks none = ap (λ ts. cut (line_of ts)) e ∙ cut-joined 32 token others lacks none ∙ sym e
 
-same_Some : (text other : List ℕ) → ◌≡◌ {A = Option (List ℕ)} (Some text) (Some other) → text ≡ other
-same_Some text other e = cc
+-- the pieces of a line that makes a call are the call's tokens
+pub line_tokens : (line : List ℕ) (call : Call) → IsLine line call → AreTokens (cut line) call
+line_tokens line call h = subst (λ ts. AreTokens ts call) (sym (ap cut h.line_is ∙ again h.tokens call h.call_is)) h.call_is
 
--- the first byte of a word and the one behind it tell it
-words_apart : (one other : List ℕ) → (get_or one 0 0 + 256 * get_or one 1 0 ≢ get_or other 0 0 + 256 * get_or other 1 0) → one ≡ other → ⊥
-words_apart one other apart e = apart (ap (λ w. get_or w 0 0 + 256 * get_or w 1 0) e)
+pub line_found : (line : List ℕ) (left : List (List ℕ)) (r : Result Call AdfError) → left ≡ cut line → IfOk r (AreTokens left) → IfOk r (IsLine line)
+line_found line left (Ok call) e h = record { tokens = left; line_is = joined-cut 32 line ∙ ap line_of (sym e); call_is = h }
+line_found line left (Err error) e h = h
 
-word_same : (one other : Keyword) → word_of one ≡ word_of other → one ≡ other
-word_same Keyword.Open Keyword.Open e = refl
-word_same Keyword.Open Keyword.Close e = absurd (words_apart (word_of Keyword.Open) (word_of Keyword.Close) (λ h. omega (arith, h)) e)
-word_same Keyword.Open Keyword.Children e = absurd (words_apart (word_of Keyword.Open) (word_of Keyword.Children) (λ h. omega (arith, h)) e)
-word_same Keyword.Open Keyword.Edit e = absurd (words_apart (word_of Keyword.Open) (word_of Keyword.Edit) (λ h. omega (arith, h)) e)
-word_same Keyword.Close Keyword.Open e = absurd (words_apart (word_of Keyword.Close) (word_of Keyword.Open) (λ h. omega (arith, h)) e)
-word_same Keyword.Close Keyword.Close e = refl
-word_same Keyword.Close Keyword.Children e = absurd (words_apart (word_of Keyword.Close) (word_of Keyword.Children) (λ h. omega (arith, h)) e)
-word_same Keyword.Close Keyword.Edit e = absurd (words_apart (word_of Keyword.Close) (word_of Keyword.Edit) (λ h. omega (arith, h)) e)
-word_same Keyword.Children Keyword.Open e = absurd (words_apart (word_of Keyword.Children) (word_of Keyword.Open) (λ h. omega (arith, h)) e)
-word_same Keyword.Children Keyword.Close e = absurd (words_apart (word_of Keyword.Children) (word_of Keyword.Close) (λ h. omega (arith, h)) e)
-word_same Keyword.Children Keyword.Children e = refl
-word_same Keyword.Children Keyword.Edit e = absurd (words_apart (word_of Keyword.Children) (word_of Keyword.Edit) (λ h. omega (arith, h)) e)
-word_same Keyword.Edit Keyword.Open e = absurd (words_apart (word_of Keyword.Edit) (word_of Keyword.Open) (λ h. omega (arith, h)) e)
-word_same Keyword.Edit Keyword.Close e = absurd (words_apart (word_of Keyword.Edit) (word_of Keyword.Close) (λ h. omega (arith, h)) e)
-word_same Keyword.Edit Keyword.Children e = absurd (words_apart (word_of Keyword.Edit) (word_of Keyword.Children) (λ h. omega (arith, h)) e)
-word_same Keyword.Edit Keyword.Edit e = refl
+-- ---- one call
 
-same_word : (tokens rest others : List (List ℕ)) (one other : Keyword) → tokens ≡ word_of one ∷ rest → tokens ≡ word_of other ∷ others → one ≡ other
-same_word tokens rest others one other e f = word_same one other (same_head (word_of one) (word_of other) rest others (sym e ∙ f))
+edit_same : (before : List (List ℕ)) (one other : Edit) (x y : List (List ℕ)) → IsEdit before one x → IsEdit before other y → (one ≡ other) × (x ≡ y)
+edit_same before one other x y h k = makes_same edit_word edit_fields edit_of edit_apart before one other x y h k
 
-same_rest : (tokens rest others : List (List ℕ)) (word : List ℕ) → tokens ≡ word ∷ rest → tokens ≡ word ∷ others → rest ≡ others
-same_rest tokens rest others word e f = same_tail word word rest others (sym e ∙ f)
+no_end : (x : List ℕ) (xs : List (List ℕ)) → [] ≡ x ∷ xs → ⊥
+no_end x xs e = cc
 
--- what a query of a line is
-record IsAsked (tokens : List (List ℕ)) (query : Query) : Type 0 where
-  node : NodeId
-  query_is : query ≡ ChildrenOf node
-  tokens_are : tokens ≡ word_of Keyword.Children ∷ node_text node ∷ []
-  node_is : IsId node
+edits_same : (tokens : List (List ℕ)) (one other : List Edit) → AreEdits tokens one → AreEdits tokens other → one ≡ other
+edits_same tokens [] other h k = absurd h
+edits_same tokens (a ∷ one) [] h k = absurd k
+edits_same tokens (a ∷ []) (b ∷ []) h k = ap (λ e. e ∷ []) (edit_same tokens a b [] [] h k).0
+edits_same tokens (a ∷ []) (b ∷ d ∷ other) h k = absurd (no_end (codes ";") k.0 (edit_same tokens a b [] (codes ";" ∷ k.0) h k.1).1)
+edits_same tokens (a ∷ c ∷ one) (b ∷ []) h k = absurd (no_end (codes ";") h.0 (sym (edit_same tokens a b (codes ";" ∷ h.0) [] h.1 k).1))
+edits_same tokens (a ∷ c ∷ one) (b ∷ d ∷ other) h k =
+    let first = edit_same tokens a b (codes ";" ∷ h.0) (codes ";" ∷ k.0) h.1 k.1 in
+    let rest : h.0 ≡ k.0 = same_tail (codes ";") (codes ";") h.0 k.0 first.1 in
+    let others : c ∷ one ≡ d ∷ other = edits_same k.0 (c ∷ one) (d ∷ other) (subst (λ ts. AreEdits ts (c ∷ one)) rest h.2) k.2 in
+    ap (λ e. e ∷ c ∷ one) first.0 ∙ ap (λ es. b ∷ es) others
 
-asked : (tokens : List (List ℕ)) (query : Query) → AreQueryTokens tokens query → IsAsked tokens query
-asked tokens (ChildrenOf node) h = record { node = node; query_is = refl; tokens_are = h.0; node_is = h.1 }
-asked tokens (Name node) h = absurd h
-asked tokens (LabelOf node) h = absurd h
-asked tokens (ShapeOf node) h = absurd h
-asked tokens (LinkText node) h = absurd h
-asked tokens (ReadAll node) h = absurd h
-asked tokens (ReadPart node selection) h = absurd h
-asked tokens (Find node path) h = absurd h
-asked tokens (Next node) h = absurd h
-asked tokens (FormatOf node) h = absurd h
-asked tokens (Parent node) h = absurd h
-asked tokens (Target node) h = absurd h
+plain_group : (tokens : List (List ℕ)) (one other : Call) → IsPlainCall tokens one → IsGroupCall tokens other → ⊥
+plain_group tokens one other h k = group_apart h.word (same_head group_word (call_word h.word) k.1 h.behind (sym k.2 ∙ h.word_is))
 
-same_query : (tokens : List (List ℕ)) (one other : Query) → IsAsked tokens one → IsAsked tokens other → one ≡ other
-same_query tokens one other h k =
-    let rests : node_text h.node ∷ [] ≡ node_text k.node ∷ [] = same_rest tokens _ _ (word_of Keyword.Children) h.tokens_are k.tokens_are in
-    let nodes : h.node ≡ k.node = same_node h.node k.node h.node_is k.node_is (same_head (node_text h.node) (node_text k.node) [] [] rests) in
-    h.query_is ∙ ap (λ node. asks node) nodes ∙ sym k.query_is
-  where
-    asks : NodeId → Query
-    asks node = ChildrenOf node
-
--- what an edit of a line is
-record IsCreated (tokens : List (List ℕ)) (edit : Edit) : Type 0 where
-  parent : NodeId
-  name : List ℕ
-  label : List ℕ
-  edit_is : edit ≡ Create parent name label
-  tokens_are : CreatesBy tokens parent name label
-
-created : (tokens : List (List ℕ)) (edit : Edit) → AreEditTokens tokens edit → IsCreated tokens edit
-created tokens (Create parent name label) h = record { parent = parent; name = name; label = label; edit_is = refl; tokens_are = h }
-created tokens (Delete node) h = absurd h
-created tokens (Rename node name) h = absurd h
-created tokens (Move node parent) h = absurd h
-created tokens (SetLabel node label) h = absurd h
-created tokens (SetDims node shape) h = absurd h
-created tokens (PutAll node bytes) h = absurd h
-created tokens (PutPart node selection bytes) h = absurd h
-created tokens (Link parent name file path) h = absurd h
-
-abbrev creates : NodeId → List ℕ → List ℕ → Edit
-creates parent name label = Create parent name label
-
-same_edit : (tokens : List (List ℕ)) (one other : Edit) → IsCreated tokens one → IsCreated tokens other → one ≡ other
-same_edit tokens one other h k =
-    let a = h.tokens_are in
-    let b = k.tokens_are in
-    let rests : node_text h.parent ∷ a.first ∷ a.second ∷ [] ≡ node_text k.parent ∷ b.first ∷ b.second ∷ [] = same_rest tokens _ _ (edit_word_of EditKeyword.Create) a.tokens_are b.tokens_are in
-    let texts : a.first ∷ a.second ∷ [] ≡ b.first ∷ b.second ∷ [] = same_tail (node_text h.parent) (node_text k.parent) _ _ rests in
-    let lasts : a.second ∷ [] ≡ b.second ∷ [] = same_tail a.first b.first _ _ texts in
-    let parents : h.parent ≡ k.parent = same_node h.parent k.parent a.parent_is b.parent_is (same_head (node_text h.parent) (node_text k.parent) _ _ rests) in
-    let names : h.name ≡ k.name = same_Some h.name k.name (sym a.name_is ∙ ap text_of (same_head a.first b.first _ _ texts) ∙ b.name_is) in
-    let labels : h.label ≡ k.label = same_Some h.label k.label (sym a.label_is ∙ ap text_of (same_head a.second b.second _ _ lasts) ∙ b.label_is) in
-    h.edit_is ∙ ap (λ p. creates p h.name h.label) parents ∙ ap (λ n. creates k.parent n h.label) names ∙ ap (λ l. creates k.parent k.name l) labels ∙ sym k.edit_is
-
-same_group : (tokens : List (List ℕ)) (one other : List Edit) → AreGroupTokens tokens one → AreGroupTokens tokens other → one ≡ other
-same_group tokens [] other h k = absurd h
-same_group tokens (a ∷ b ∷ one) other h k = absurd h
-same_group tokens (a ∷ []) [] h k = absurd k
-same_group tokens (a ∷ []) (c ∷ d ∷ other) h k = absurd k
-same_group tokens (a ∷ []) (c ∷ []) h k = ap (λ x. x ∷ []) (same_edit tokens a c (created tokens a h) (created tokens c k))
-
-same_modes : (one other : OpenMode) → one ≡ other
-same_modes New New = refl
-
-abbrev opens : ℕ → OpenMode → ℕ → Call
-opens number mode limit = Call.Open number mode limit
-
-same_call : (tokens : List (List ℕ)) (one other : Call) → AreTokens tokens one → AreTokens tokens other → one ≡ other
-same_call tokens (Call.Open n m l) (Call.Open x y z) h k =
-    let rests : decimal n ∷ mode_word m ∷ decimal l ∷ [] ≡ decimal x ∷ mode_word y ∷ decimal z ∷ [] = same_rest tokens _ _ (word_of Keyword.Open) h.0 k.0 in
-    let lasts : decimal l ∷ [] ≡ decimal z ∷ [] = same_tail (mode_word m) (mode_word y) _ _ (same_tail (decimal n) (decimal x) _ _ rests) in
-    let numbers : n ≡ x = decimal_injective n x (omega arith) (omega arith) (same_head (decimal n) (decimal x) _ _ rests) in
-    let limits : l ≡ z = decimal_injective l z (omega arith) (omega arith) (same_head (decimal l) (decimal z) [] [] lasts) in
-    ap (λ a. opens a m l) numbers ∙ ap (λ a. opens x a l) (same_modes m y) ∙ ap (λ a. opens x y a) limits
-same_call tokens (Call.Open n m l) (Call.Close x) h k = let e : Keyword.Open ≡ Keyword.Close = same_word tokens _ _ _ _ h.0 k.0 in cc
-same_call tokens (Call.Open n m l) (Call.Ask q) h k = let e : Keyword.Open ≡ Keyword.Children = same_word tokens _ _ _ _ h.0 (asked tokens q k).tokens_are in cc
-same_call tokens (Call.Open n m l) (Call.Edit es) h k = let e : Keyword.Open ≡ Keyword.Edit = same_word tokens _ _ _ _ h.0 k.1 in cc
-same_call tokens (Call.Close n) (Call.Open x y z) h k = let e : Keyword.Close ≡ Keyword.Open = same_word tokens _ _ _ _ h.0 k.0 in cc
-same_call tokens (Call.Close n) (Call.Close x) h k =
-    let rests : decimal n ∷ [] ≡ decimal x ∷ [] = same_rest tokens _ _ (word_of Keyword.Close) h.0 k.0 in
-    let numbers : n ≡ x = decimal_injective n x (omega arith) (omega arith) (same_head (decimal n) (decimal x) [] [] rests) in
-    ap (λ a. closes a) numbers
-  where
-    closes : ℕ → Call
-    closes number = Call.Close number
-same_call tokens (Call.Close n) (Call.Ask q) h k = let e : Keyword.Close ≡ Keyword.Children = same_word tokens _ _ _ _ h.0 (asked tokens q k).tokens_are in cc
-same_call tokens (Call.Close n) (Call.Edit es) h k = let e : Keyword.Close ≡ Keyword.Edit = same_word tokens _ _ _ _ h.0 k.1 in cc
-same_call tokens (Call.Ask q) (Call.Open x y z) h k = let e : Keyword.Children ≡ Keyword.Open = same_word tokens _ _ _ _ (asked tokens q h).tokens_are k.0 in cc
-same_call tokens (Call.Ask q) (Call.Close x) h k = let e : Keyword.Children ≡ Keyword.Close = same_word tokens _ _ _ _ (asked tokens q h).tokens_are k.0 in cc
-same_call tokens (Call.Ask q) (Call.Ask r) h k = ap (λ a. Call.Ask a) (same_query tokens q r (asked tokens q h) (asked tokens r k))
-same_call tokens (Call.Ask q) (Call.Edit es) h k = let e : Keyword.Children ≡ Keyword.Edit = same_word tokens _ _ _ _ (asked tokens q h).tokens_are k.1 in cc
-same_call tokens (Call.Edit es) (Call.Open x y z) h k = let e : Keyword.Edit ≡ Keyword.Open = same_word tokens _ _ _ _ h.1 k.0 in cc
-same_call tokens (Call.Edit es) (Call.Close x) h k = let e : Keyword.Edit ≡ Keyword.Close = same_word tokens _ _ _ _ h.1 k.0 in cc
-same_call tokens (Call.Edit es) (Call.Ask q) h k = let e : Keyword.Edit ≡ Keyword.Children = same_word tokens _ _ _ _ h.1 (asked tokens q k).tokens_are in cc
-same_call tokens (Call.Edit es) (Call.Edit fs) h k =
-    let rests : h.0 ≡ k.0 = same_rest tokens _ _ (word_of Keyword.Edit) h.1 k.1 in
-    ap (λ a. edits_of a) (same_group h.0 es fs h.2 (subst (λ ts. AreGroupTokens ts fs) (sym rests) k.2))
+group_same : (tokens : List (List ℕ)) (one other : Call) → IsGroupCall tokens one → IsGroupCall tokens other → one ≡ other
+group_same tokens one other h k =
+    let rest : h.1 ≡ k.1 = same_tail group_word group_word h.1 k.1 (sym h.2 ∙ k.2) in
+    h.4 ∙ ap edits_of (edits_same k.1 h.0 k.0 (subst (λ ts. AreEdits ts h.0) rest h.3) k.3) ∙ sym k.4
   where
     edits_of : List Edit → Call
     edits_of edits = Call.Edit edits
 
+call_same : (tokens : List (List ℕ)) (one other : Call) → AreTokens tokens one → AreTokens tokens other → one ≡ other
+call_same tokens one other h k =
+    elim h [
+      | inl plain ↦ elim k [
+        | inl other_plain ↦ (makes_same call_word call_fields call_of call_apart tokens one other [] [] plain other_plain).0
+        | inr group ↦ absurd (plain_group tokens one other plain group)
+      ]
+      | inr group ↦ elim k [
+        | inl other_plain ↦ absurd (plain_group tokens other one other_plain group)
+        | inr other_group ↦ group_same tokens one other group other_group
+      ]
+    ]
+
 -- a line makes at most one call
 pub one_call : (line : List ℕ) (one other : Call) → IsLine line one → IsLine line other → one ≡ other
-one_call line one other h k = same_call (cut line) one other (line_tokens line one h) (line_tokens line other k)
+one_call line one other h k = call_same (cut line) one other (line_tokens line one h) (line_tokens line other k)
 
--- ---- each call has a line
+-- ---- reading a group
 
-pub open_has_line : (number limit : ℕ) → IsFileNumber number → IsLimit limit → IsLine (codes "open " ++ (decimal number ++ (codes " new " ++ decimal limit))) (Call.Open number New limit)
-open_has_line number limit small bounds =
-    record { tokens = word_of Keyword.Open ∷ decimal number ∷ mode_word New ∷ decimal limit ∷ []; line_is = refl; call_is = (refl, small, bounds) }
+pub edit_makes : (before behind after : List (List ℕ)) (word : EditWord) (token : List ℕ) (edit : Edit) → before ≡ token ∷ behind → token ≡ edit_word word → IsMadeRead (edit_fields word) (edit_of word) behind (Ok edit) after → IsEdit before edit after
+edit_makes = makes edit_word edit_fields edit_of
 
-pub close_has_line : (number : ℕ) → IsFileNumber number → IsLine (codes "close " ++ decimal number) (Call.Close number)
-close_has_line number small = record { tokens = word_of Keyword.Close ∷ decimal number ∷ []; line_is = refl; call_is = (refl, small) }
+pub edit_none : (before behind : List (List ℕ)) (token : List ℕ) → before ≡ token ∷ behind → ((word : EditWord) → token ≢ edit_word word) → (edit : Edit) (after : List (List ℕ)) → IsEdit before edit after → ⊥
+edit_none = makes_none edit_word edit_fields edit_of
 
-pub children_has_line : (node : NodeId) → IsId node → IsLine (codes "children " ++ node_text node) (Call.Ask (ChildrenOf node))
-children_has_line node id = record { tokens = word_of Keyword.Children ∷ node_text node ∷ []; line_is = refl; call_is = (refl, id) }
+pub edit_left : (before : List (List ℕ)) → before ≡ [] → (edit : Edit) (after : List (List ℕ)) → IsEdit before edit after → ⊥
+edit_left = makes_left edit_word edit_fields edit_of
 
-pub create_has_line : (parent : NodeId) (name label : List ℕ) → IsId parent → All (λ b. b < 256) name → All (λ b. b < 256) label
-    → IsLine (codes "edit create " ++ (node_text parent ++ (codes " " ++ (spelled name ++ (codes " " ++ spelled label))))) (Call.Edit (Create parent name label ∷ []))
-create_has_line parent name label id small short =
-    let tokens : List (List ℕ) = edit_word_of EditKeyword.Create ∷ node_text parent ∷ spelled name ∷ spelled label ∷ [] in
-    let by : CreatesBy tokens parent name label = record {
-      first = spelled name;
-      second = spelled label;
-      tokens_are = refl;
-      parent_is = id;
-      name_is = text_of-spelled name small;
-      label_is = text_of-spelled label short;
-    } in
-    record { tokens = word_of Keyword.Edit ∷ tokens; line_is = refl; call_is = (tokens, refl, by) }
+pub edit_no_fields : (before behind : List (List ℕ)) (word : EditWord) (token : List ℕ) (error : AdfError) → before ≡ token ∷ behind → token ≡ edit_word word → IsNoRead (edit_fields word) behind error → error ≡ Syntax → (edit : Edit) (after : List (List ℕ)) → IsEdit before edit after → ⊥
+edit_no_fields = makes_no_fields edit_word edit_fields edit_of edit_apart
+
+-- some first edits of a group were read
+pub record HasEdits (whole left : List (List ℕ)) (done : List Edit) : Type 0 where
+  pub more : (tail : List Edit) → AreEdits left tail → AreEdits whole (done ++ tail)
+  pub back : (edits : List Edit) → AreEdits whole edits → (tail : List Edit) × (edits ≡ done ++ tail) × AreEdits left tail
+
+pub no_edits : (whole : List (List ℕ)) → HasEdits whole whole []
+no_edits whole = record { more = λ tail h. h; back = λ edits h. (edits, refl, h) }
+
+pub edits_more : (whole left rest : List (List ℕ)) (done : List Edit) (edit : Edit) → HasEdits whole left done → IsEdit left edit (codes ";" ∷ rest) → HasEdits whole rest (done ++ edit ∷ [])
+edits_more whole left rest done edit h is = record {
+  more = λ tail k. subst (AreEdits whole) (sym (append_assoc done (edit ∷ []) tail)) (h.more (edit ∷ tail) (with_first tail k));
+  back = λ edits k. let old = h.back edits k in let new = without_first old.0 old.2 in (new.0, old.1 ∙ ap (λ es. done ++ es) new.1 ∙ sym (append_assoc done (edit ∷ []) new.0), new.2);
+}
+  where
+    with_first : (tail : List Edit) → AreEdits rest tail → AreEdits left (edit ∷ tail)
+    with_first [] k = absurd k
+    with_first (next ∷ tail) k = (rest, is, k)
+
+    without_first : (edits : List Edit) → AreEdits left edits → (tail : List Edit) × (edits ≡ edit ∷ tail) × AreEdits rest tail
+    without_first [] k = absurd k
+    without_first (e ∷ []) k = absurd (no_end (codes ";") rest (edit_same left e edit [] (codes ";" ∷ rest) k is).1)
+    without_first (e ∷ next ∷ edits) k =
+        let first = edit_same left e edit (codes ";" ∷ k.0) (codes ";" ∷ rest) k.1 is in
+        (next ∷ edits, ap (λ x. x ∷ next ∷ edits) first.0, subst (λ ts. AreEdits ts (next ∷ edits)) (same_tail (codes ";") (codes ";") k.0 rest first.1) k.2)
+
+-- the same, where the edit was put behind the first ones
+pub edits_on : (whole left after rest : List (List ℕ)) (token : List ℕ) (done now : List Edit) (edit : Edit) → HasEdits whole left done → IsEdit left edit after → after ≡ token ∷ rest → token ≡ codes ";" → now ≡ done ++ edit ∷ [] → HasEdits whole rest now
+edits_on whole left after rest token done now edit h is e parted more =
+    subst (HasEdits whole rest) (sym more) (edits_more whole left rest done edit h (subst (λ ts. IsEdit left edit ts) (e ∙ ap (λ t. t ∷ rest) parted) is))
+
+pub edits_end : (whole left after : List (List ℕ)) (done : List Edit) (edit : Edit) → HasEdits whole left done → IsEdit left edit after → after ≡ [] → AreEdits whole (done ++ edit ∷ [])
+edits_end whole left after done edit h is e = h.more (edit ∷ []) (subst (λ ts. IsEdit left edit ts) e is)
+
+-- no edit stands behind the first ones
+pub edits_none : (whole left : List (List ℕ)) (done : List Edit) → HasEdits whole left done → ((edit : Edit) (after : List (List ℕ)) → IsEdit left edit after → ⊥) → (edits : List Edit) → AreEdits whole edits → ⊥
+edits_none whole left done h none edits k = let old = h.back edits k in begins old.0 old.2
+  where
+    begins : (tail : List Edit) → AreEdits left tail → ⊥
+    begins [] k = k
+    begins (e ∷ []) k = none e [] k
+    begins (e ∷ next ∷ tail) k = none e (codes ";" ∷ k.0) k.1
+
+-- another token than `;` stands behind an edit
+pub edits_other : (whole left after rest : List (List ℕ)) (token : List ℕ) (done : List Edit) (edit : Edit) → HasEdits whole left done → IsEdit left edit after → after ≡ token ∷ rest → token ≢ codes ";" → (edits : List Edit) → AreEdits whole edits → ⊥
+edits_other whole left after rest token done edit h is e other edits k = let old = h.back edits k in begins old.0 old.2
+  where
+    begins : (tail : List Edit) → AreEdits left tail → ⊥
+    begins [] k = k
+    begins (x ∷ []) k = no_end token rest (sym (edit_same left edit x after [] is k).1 ∙ e)
+    begins (x ∷ next ∷ tail) k = other (same_head token (codes ";") rest k.0 (sym e ∙ (edit_same left edit x after (codes ";" ∷ k.0) is k.1).1))
+
+-- ---- openings
+
+opened_by : (word : CallWord) (values : Values (call_fields word)) (behind : List (List ℕ)) (number limit : ℕ) (mode : OpenMode) → Reads behind (call_fields word) values [] → Call.Open number mode limit ≡ call_of word values → IsLimit limit
+opened_by calls.Open values behind number limit mode reads e =
+    let spelled = reads.2.2.1.spelled in
+    let same : limit ≡ values.1.1.0 = ap limit_in e in
+    subst IsLimit (sym same) spelled.2.1
+  where
+    limit_in : Call → ℕ
+    limit_in (Call.Open number mode limit) = limit
+    limit_in call = 0
+opened_by calls.Close values behind number limit mode reads e = absurd cc
+opened_by calls.Discard values behind number limit mode reads e = absurd cc
+opened_by (calls.Ask query) values behind number limit mode reads e = absurd cc
+
+opens_no_group : (number limit : ℕ) (mode : OpenMode) (edits : List Edit) → Call.Open number mode limit ≡ Call.Edit edits → ⊥
+opens_no_group number limit mode edits e = cc
+
+-- what a line opens has a limit
+pub opening_limit : (line : List ℕ) (number limit : ℕ) (mode : OpenMode) → IsLine line (Call.Open number mode limit) → IsLimit limit
+opening_limit line number limit mode h =
+    elim h.call_is [
+      | inl plain ↦ opened_by plain.word plain.values plain.behind number limit mode plain.reads plain.made_is
+      | inr group ↦ absurd (opens_no_group number limit mode group.0 group.4)
+    ]
+
+-- ---- reading a line
+
+pub err_same : {A : Type 0} (one other : AdfError) → ◌≡◌ {A = Result A AdfError} (Err one) (Err other) → one ≡ other
+err_same one other e = cc
+
+pub group_none : (left : List (List ℕ)) (call : Call) → ((edits : List Edit) → AreEdits left edits → ⊥) → IsGroupCall (group_word ∷ left) call → ⊥
+group_none left call none h = none h.0 (subst (λ ts. AreEdits ts h.0) (sym (same_tail group_word group_word left h.1 h.2)) h.3)
+
+pub call_no_fields : (before behind : List (List ℕ)) (word : CallWord) (token : List ℕ) (error : AdfError) → before ≡ token ∷ behind → token ≡ call_word word → IsNoRead (call_fields word) behind error → error ≡ Syntax → (call : Call) (after : List (List ℕ)) → Makes call_word call_fields call_of before call after → ⊥
+call_no_fields = makes_no_fields call_word call_fields call_of call_apart
+
+-- a call of all tokens
+pub call_whole : (left after : List (List ℕ)) (word : CallWord) (call : Call) → IsMadeRead (call_fields word) (call_of word) left (Ok call) after → after ≡ [] → IsPlainCall (call_word word ∷ left) call
+call_whole left after word call h e = makes call_word call_fields call_of (call_word word ∷ left) left [] word (call_word word) call refl refl (subst (λ ts. IsMadeRead (call_fields word) (call_of word) left (Ok call) ts) e h)
+
+-- a call with a token behind it
+pub call_more : (left after rest : List (List ℕ)) (token : List ℕ) (word : CallWord) (call other : Call) → IsMadeRead (call_fields word) (call_of word) left (Ok call) after → after ≡ token ∷ rest → IsPlainCall (call_word word ∷ left) other → ⊥
+call_more left after rest token word call other h e k =
+    let is = makes call_word call_fields call_of (call_word word ∷ left) left after word (call_word word) call refl refl h in
+    no_end token rest (sym (makes_same call_word call_fields call_of call_apart (call_word word ∷ left) call other after [] is k).1 ∙ e)
+
+-- no token
+pub no_tokens : (tokens : List (List ℕ)) (call : Call) → tokens ≡ [] → AreTokens tokens call → ⊥
+no_tokens tokens call e h =
+    elim h [
+      | inl plain ↦ no_end (call_word plain.word) plain.behind (sym e ∙ plain.word_is)
+      | inr group ↦ no_end group_word group.1 (sym e ∙ group.2)
+    ]
+
+-- the word of a group
+pub group_found : (tokens left : List (List ℕ)) (token : List ℕ) (r : Result Call AdfError) → tokens ≡ token ∷ left → token ≡ group_word → IfOk r (IsGroupCall (group_word ∷ left)) → IfOk r (AreTokens tokens)
+group_found tokens left token (Ok call) e is h = inr (subst (λ ts. IsGroupCall ts call) (sym (e ∙ ap (λ t. t ∷ left) is)) h)
+group_found tokens left token (Err error) e is h = h
+
+pub group_only : (tokens left : List (List ℕ)) (token : List ℕ) (call : Call) → tokens ≡ token ∷ left → token ≡ group_word → (IsGroupCall (group_word ∷ left) call → ⊥) → AreTokens tokens call → ⊥
+group_only tokens left token call e is none h =
+    let all : tokens ≡ group_word ∷ left = e ∙ ap (λ t. t ∷ left) is in
+    elim h [
+      | inl plain ↦ group_apart plain.word (same_head group_word (call_word plain.word) left plain.behind (sym all ∙ plain.word_is))
+      | inr group ↦ none (subst (λ ts. IsGroupCall ts call) all group)
+    ]
+
+-- the word of another call
+pub call_found : (tokens left : List (List ℕ)) (token : List ℕ) (word : CallWord) (r : Result Call AdfError) → tokens ≡ token ∷ left → token ≡ call_word word → IfOk r (IsPlainCall (call_word word ∷ left)) → IfOk r (AreTokens tokens)
+call_found tokens left token word (Ok call) e is h = inl (subst (λ ts. IsPlainCall ts call) (sym (e ∙ ap (λ t. t ∷ left) is)) h)
+call_found tokens left token word (Err error) e is h = h
+
+pub call_only : (tokens left : List (List ℕ)) (token : List ℕ) (word : CallWord) (call : Call) → tokens ≡ token ∷ left → token ≡ call_word word → (IsPlainCall (call_word word ∷ left) call → ⊥) → AreTokens tokens call → ⊥
+call_only tokens left token word call e is none h =
+    let all : tokens ≡ call_word word ∷ left = e ∙ ap (λ t. t ∷ left) is in
+    elim h [
+      | inl plain ↦ none (subst (λ ts. IsPlainCall ts call) all plain)
+      | inr group ↦ group_apart word (same_head group_word (call_word word) group.1 left (sym group.2 ∙ all))
+    ]
+
+-- no word
+pub no_word : (tokens left : List (List ℕ)) (token : List ℕ) (call : Call) → tokens ≡ token ∷ left → token ≢ group_word → ((word : CallWord) → token ≢ call_word word) → AreTokens tokens call → ⊥
+no_word tokens left token call e other none h =
+    elim h [
+      | inl plain ↦ none plain.word (same_head token (call_word plain.word) left plain.behind (sym e ∙ plain.word_is))
+      | inr group ↦ other (same_head token group_word left group.1 (sym e ∙ group.2))
+    ]
+
+-- ---- reading an edit
+
+pub edit_found : (before behind after : List (List ℕ)) (word : EditWord) (token : List ℕ) (r : Result Edit AdfError) → before ≡ token ∷ behind → token ≡ edit_word word → IsMadeRead (edit_fields word) (edit_of word) behind r after → IfOk r (λ edit. IsEdit before edit after)
+edit_found before behind after word token (Ok edit) e is h = edit_makes before behind after word token edit e is h
+edit_found before behind after word token (Err error) e is h = tt
+
+pub edit_missing : (before behind after : List (List ℕ)) (word : EditWord) (token : List ℕ) (r : Result Edit AdfError) → before ≡ token ∷ behind → token ≡ edit_word word → IsMadeRead (edit_fields word) (edit_of word) behind r after
+    → r ≡ Err Syntax → (edit : Edit) (last : List (List ℕ)) → IsEdit before edit last → ⊥
+edit_missing before behind after word token (Ok made) e is h error = absurd cc
+edit_missing before behind after word token (Err given) e is h error = edit_no_fields before behind word token given e is h (err_same given Syntax error)
+
+pub edit_why : (behind after : List (List ℕ)) (word : EditWord) (r : Result Edit AdfError) → IsMadeRead (edit_fields word) (edit_of word) behind r after → IfErr r IsRefusal
+edit_why behind after word (Ok edit) h = tt
+edit_why behind after word (Err error) h = h.why
+
+-- an edit takes a token
+pub edit_shorter : (before after : List (List ℕ)) (edit : Edit) → IsEdit before edit after → length after < length before
+edit_shorter before after edit h =
+    let less : length after ≤ length h.behind = reads_shorter (edit_fields h.word) h.behind after h.values h.reads in
+    let all : length before ≡ suc (length h.behind) = ap length h.word_is in
+    omega (arith, less, all)
+  where
+    reads_shorter : (kinds : List Kind) (before after : List (List ℕ)) (values : Values kinds) → Reads before kinds values after → length after ≤ length before
+    reads_shorter [] before after values h = omega (arith, ap length h)
+    reads_shorter (kind ∷ kinds) before after values h = omega (arith, reads_shorter kinds h.0 after values.1 h.2, ap length h.1.split, length-append h.1.tokens h.0)

@@ -1,5 +1,11 @@
 pub mod Pieces
 pub mod Numerals
 pub mod Items
-pub mod CallTokens
+pub mod Sizes
+pub mod FieldLaws
+pub mod Reading
+pub mod WordLaws
 pub mod CallLaws
+pub mod Selections
+pub mod PlainLaws
+pub mod ReplyLaws

@@ -1,24 +1,28 @@
 -- Lists cut at a byte that stands in none of the pieces.
-use Rattle.std.proofs.Common.{◌≡◌, ◌==◌, ℕ, ◌<◌, ◌^◌, ◌≤◌, true, false, All, List, [], ◌∷◌, ◌++◌, refl, sym, ◌∙◌, ap, subst, arith, Option, Some, Bor, decimal}
+use Rattle.std.proofs.Common.{◌≡◌, ◌==◌, ℕ, ◌<◌, ◌^◌, ◌≤◌, true, false, All, List, [], ◌∷◌, ◌++◌, refl, sym, ◌∙◌, ap, subst, arith, length, Option, Some, Bor, decimal}
 use Rattle.std.specs.Prelude.{⊤}
 use Rattle.std.specs.Str.Parse.{AllDigits}
 use Rattle.std.proofs.lemmas.Bool.Decides.{nat_tests}
 use Rattle.std.proofs.lemmas.Fmt.{decimal_is_IsNumeral}
 use Rattle.std.proofs.lemmas.List.Elements.{All-nil, All-cons, All-head, All-tail, All-append}
-use Rattle.std.proofs.lemmas.List.Splits.{slice_split_none, slice_split_at, join_with_byte-slice_split}
+use Rattle.std.proofs.lemmas.List.Splits.{slice_split_none, slice_split_at, length-slice_split, join_with_byte-slice_split}
 use Rattle.std.proofs.lemmas.Str.Parse.{digit_from_value}
 use Rattle.adf_model.specs.declared.tree.NodeId.{NodeId}
-use Rattle.call_script.specs.Tokens.{cut, left_of, line_of, node_text, IsId}
+use Rattle.std.specs.List.{join_with_byte}
+use Rattle.call_script.specs.Tokens.{pieces_of, left_of, node_text, IsId}
 
 -- no byte of the list is c
 abbrev pub Lacks : ℕ → List ℕ → Type 0
 Lacks c bs = All (λ b. (b == c) ≡ false) bs
 
-pub left_split : (o : Option (Bor (List ℕ))) (rest : Bor (List ℕ)) (token after : List ℕ) → o ≡ Some rest → rest.now ≡ token ++ (32 ∷ after) → Lacks 32 token → left_of o ≡ token ∷ cut after
-left_split o rest token after e f none = ap left_of e ∙ ap cut f ∙ slice_split_at (λ b. b == 32) token 32 after none refl
+same_byte : (c : ℕ) → (c == c) ≡ true
+same_byte c = grind (arith, nat_tests)
 
-pub left_whole : (o : Option (Bor (List ℕ))) (rest : Bor (List ℕ)) → o ≡ Some rest → Lacks 32 rest.now → left_of o ≡ rest.now ∷ []
-left_whole o rest e none = ap left_of e ∙ slice_split_none (λ b. b == 32) rest.now none
+pub left_split : (c : ℕ) (o : Option (Bor (List ℕ))) (rest : Bor (List ℕ)) (token after : List ℕ) → o ≡ Some rest → rest.now ≡ token ++ (c ∷ after) → Lacks c token → left_of c o ≡ token ∷ pieces_of c after
+left_split c o rest token after e f none = ap (left_of c) e ∙ ap (pieces_of c) f ∙ slice_split_at (λ b. b == c) token c after none (same_byte c)
+
+pub left_whole : (c : ℕ) (o : Option (Bor (List ℕ))) (rest : Bor (List ℕ)) → o ≡ Some rest → Lacks c rest.now → left_of c o ≡ rest.now ∷ []
+left_whole c o rest e none = ap (left_of c) e ∙ slice_split_none (λ b. b == c) rest.now none
 
 -- what stands before the first such byte, and what stands behind it, are determined
 pub cut_same : (c : ℕ) (a b x y : List ℕ) → Lacks c a → Lacks c x → a ++ (c ∷ b) ≡ x ++ (c ∷ y) → (a ≡ x) × (b ≡ y)
@@ -63,16 +67,24 @@ node_has_point token node none e = last (decimal node.file) (decimal node.serial
     last [] back h = let same : true ≡ false = All-head (λ b. (b == 46) ≡ false) 46 back h in cc
     last (b ∷ front) back h = last front back (All-tail (λ b. (b == 46) ≡ false) b (front ++ (46 ∷ back)) h)
 
--- no token has a space
-abbrev pub Spaceless : List (List ℕ) → Type 0
-Spaceless [] = ⊤
-Spaceless (token ∷ tokens) = Lacks 32 token × Spaceless tokens
+-- no piece has such a byte
+abbrev pub AllLack : ℕ → List (List ℕ) → Type 0
+AllLack c [] = ⊤
+AllLack c (piece ∷ pieces) = Lacks c piece × AllLack c pieces
 
--- tokens without spaces are cut apart again
-pub cut-line_of : (token : List ℕ) (tokens : List (List ℕ)) → Lacks 32 token → Spaceless tokens → cut (line_of (token ∷ tokens)) ≡ token ∷ tokens
-cut-line_of token [] none others = slice_split_none (λ b. b == 32) token none
-cut-line_of token (next ∷ tokens) none others =
-    slice_split_at (λ b. b == 32) token 32 (line_of (next ∷ tokens)) none refl ∙ ap (λ ts. token ∷ ts) (cut-line_of next tokens others.0 others.1)
+pub all_lack-append : (c : ℕ) (front back : List (List ℕ)) → AllLack c front → AllLack c back → AllLack c (front ++ back)
+all_lack-append c [] back h k = k
+all_lack-append c (piece ∷ front) back h k = (h.0, all_lack-append c front back h.1 k)
 
-pub line_of-cut : (line : List ℕ) → line ≡ line_of (cut line)
-line_of-cut line = sym (join_with_byte-slice_split 32 line)
+-- pieces without such a byte that are joined by it are cut apart again
+pub cut-joined : (c : ℕ) (piece : List ℕ) (pieces : List (List ℕ)) → Lacks c piece → AllLack c pieces → pieces_of c (join_with_byte c (piece ∷ pieces)) ≡ piece ∷ pieces
+cut-joined c piece [] none others = slice_split_none (λ b. b == c) piece none
+cut-joined c piece (next ∷ pieces) none others =
+    slice_split_at (λ b. b == c) piece c (join_with_byte c (next ∷ pieces)) none (same_byte c) ∙ ap (λ ps. piece ∷ ps) (cut-joined c next pieces others.0 others.1)
+
+pub joined-cut : (c : ℕ) (text : List ℕ) → text ≡ join_with_byte c (pieces_of c text)
+joined-cut c text = sym (join_with_byte-slice_split c text)
+
+-- there is a piece
+pub some_piece : (c : ℕ) (text : List ℕ) → pieces_of c text ≡ [] → ⊥
+some_piece c text e = absurd (omega (arith, length-slice_split (λ b. b == c) text, ap length e))

@@ -6,8 +6,14 @@ use Rattle.adf_model.specs.declared.tree.Child.{Child}
 use Rattle.adf_model.specs.declared.tree.NodeId.{NodeId}
 use Rattle.adf_model.specs.Spelling.{spelled}
 use Rattle.call_script.specs.declared.calls.Answer.{Answer}
-use Rattle.call_script.specs.declared.calls.Answer.TheVariants.{Done, Children, Created, Refused, EditRefused}
-use Rattle.call_script.specs.Tokens.{node_text}
+use Rattle.call_script.specs.declared.calls.Answer.TheVariants as answer
+use Rattle.call_script.specs.Tokens.{node_text, dims_text}
+use Rattle.adf_format.specs.declared.types.Format.{Format}
+use Rattle.adf_format.specs.declared.types.Format.TheVariants.{Little, Big}
+use Rattle.adf_format.specs.Parts.{type_word}
+use Rattle.adf_model.specs.declared.tree.Shape.{Shape}
+use Rattle.adf_model.specs.Shapes.{dims_of}
+use Rattle.hex.specs.Hex.{encode_lower}
 
 -- a refusal's number and word
 abbrev pub refusal_word : AdfError → List ℕ
@@ -76,21 +82,46 @@ node_field node = 32 ∷ node_text node
 abbrev pub child_field : Child → List ℕ
 child_field child = node_field child.node ++ (32 ∷ spelled child.name)
 
--- the line that is printed for an answer
+-- a space and a text behind it
+abbrev pub text_field : List ℕ → List ℕ
+text_field text = 32 ∷ spelled text
+
+-- the word for the byte order of numbers
+abbrev pub format_word : Format → List ℕ
+format_word Little = codes "L"
+format_word Big = codes "B"
+
+-- a type and its dimensions
+abbrev pub shape_text : Shape → List ℕ
+shape_text shape = type_word shape.kind ++ (32 ∷ dims_text (dims_of shape))
+
+-- what stands behind `ok`
+abbrev pub told : Answer → List ℕ
+told (answer.Text text) = text_field text
+told (answer.Shape shape) = 32 ∷ shape_text shape
+told (answer.Children children) = number_field (length children) ++ flat_map child_field children
+told (answer.Link file path) = text_field file ++ text_field path
+told (answer.Hex bytes) = 32 ∷ encode_lower bytes
+told (answer.Node node) = node_field node
+told (answer.Format format) = 32 ∷ format_word format
+told (answer.Created nodes) = flat_map node_field nodes
+told given = []
+
+-- the line that is printed for an answer; bytes of data are spelled in lower case
 abbrev pub reply_line : Answer → List ℕ
-reply_line Done = codes "ok"
-reply_line (Children children) = codes "ok" ++ number_field (length children) ++ flat_map child_field children
-reply_line (Created nodes) = codes "ok" ++ flat_map node_field nodes
-reply_line (Refused error) = refusal_text error
-reply_line (EditRefused error) = refusal_text error.error ++ place_text error.error error.at
+reply_line (answer.Refused error) = refusal_text error
+reply_line (answer.EditRefused error) = refusal_text error.error ++ place_text error.error error.at
+reply_line given = codes "ok" ++ told given
 
 -- a rule has two digits
 abbrev pub HasRule : AdfError → Type 0
 HasRule (Layout rule place) = (1 ≤ rule) × (rule ≤ 99)
 HasRule _ = ⊤
 
--- each field of the answer has a spelling
+-- each field of the answer has a spelling: a rule has two digits, a rank is at most 12, and bytes are not empty
 abbrev pub HasSpelling : Answer → Type 0
-HasSpelling (Refused error) = HasRule error
-HasSpelling (EditRefused error) = HasRule error.error
+HasSpelling (answer.Refused error) = HasRule error
+HasSpelling (answer.EditRefused error) = HasRule error.error
+HasSpelling (answer.Shape shape) = shape.rank ≤ 12
+HasSpelling (answer.Hex bytes) = 1 ≤ length bytes
 HasSpelling _ = ⊤

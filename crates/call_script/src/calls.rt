@@ -1,12 +1,18 @@
 //! The calls that lines make, and what is answered to them.
 
-use adf_model::{AdfError, Children, EditError, Edits, Query, Serials};
+use adf_model::{
+    AdfError, Children, EditError, Edits, Format, NodeId, Query, Serials, Shape, Text,
+};
 
 /// How a file is opened.
 #[derive(Clone, Copy, Debug, PartialEq, Eq, Drop)]
 pub enum OpenMode {
     /// The device is empty, and becomes a fresh file.
     New,
+    /// As it stands, for reading and for editing.
+    ReadWrite,
+    /// As it stands, for reading alone.
+    ReadOnly,
 }
 
 /// What a line asks for.
@@ -22,6 +28,10 @@ pub enum Call {
     Close {
         number: u32,
     },
+    /// Takes a closed file off the list.
+    Discard {
+        number: u32,
+    },
     /// A question about a tree.
     Ask(Query),
     /// A group of edits, all of them or none.
@@ -33,8 +43,20 @@ pub enum Call {
 pub enum Answer {
     /// The call is done, and tells nothing.
     Done,
+    /// A name or a label.
+    Text(Text),
+    /// A type and dimensions.
+    Shape(Shape),
     /// The children of a node.
     Children(Children),
+    /// The file and the path of a link.
+    Link { file: Text, path: Text },
+    /// Bytes of data.
+    Hex(Text),
+    /// A node.
+    Node(NodeId),
+    /// The byte order of numbers in data.
+    Format(Format),
     /// The nodes that a done group of edits created.
     Created(Serials),
     /// The call is refused.

@@ -1,17 +1,20 @@
 //! Tokens are read as numbers, nodes and texts.
 
-ghost use Rattle.std.specs.Prelude.{◌≡◌, ◌≢◌, ◌<◌, ◌^◌, ℕ, None, IfSome, IfOk, IfErr, IsNone, Err, decimal, is_some, MatchOption, OnOk, length, ◌++◌, ◌∷◌, ◌≤◌};
+ghost use Rattle.std.specs.Prelude.{◌≡◌, ◌≢◌, ◌<◌, ◌^◌, ℕ, List, None, IfSome, IfOk, IfErr, IsNone, Err, decimal, is_some, MatchOption, OnOk, length, ◌++◌, ◌∷◌, ◌≤◌};
 ghost use Rattle.percent_encoding.specs.Percent.{percent_decode as decoded};
 ghost use Rattle.adf_model.specs.declared.tree.NodeId.{NodeId};
 ghost use Rattle.adf_model.specs.Spelling.{items_text, text_of, is_plain};
 ghost use Rattle.adf_format.specs.Hex.{digit_value};
 ghost use Rattle.call_script.specs.declared.calls.OpenMode.{OpenMode};
-ghost use Rattle.call_script.specs.Lines.{IsRefusal};
-ghost use Rattle.call_script.specs.Tokens.{node_text, mode_word, begins_plainly, IsFileNumber, IsLimit, IsId, IsText};
+ghost use Rattle.adf_format.specs.declared.types.DataType.{DataType};
+ghost use Rattle.adf_format.specs.Parts.{type_word};
+ghost use Rattle.call_script.specs.Causes.{IsRefusal};
+ghost use Rattle.call_script.specs.Tokens.{node_text, mode_word, begins_plainly, IsFileNumber, IsLimit, IsId, IsText, IsHex};
 
 use crate::calls::OpenMode;
 use crate::tokens::split_at_byte;
-use adf_model::{AdfError, NodeId, Text};
+use adf_model::{AdfError, DataType, NodeId, Text};
+use hex::FromHexError;
 use percent_encoding::percent_decode;
 use std::alloc::{AllocError, Global};
 use std::str;
@@ -75,7 +78,48 @@ pub(crate) fn read_mode(token: &[u8]) -> Option<OpenMode>
 {
     match token {
         b"new" => Some(OpenMode::New),
+        b"rw" => Some(OpenMode::ReadWrite),
+        b"ro" => Some(OpenMode::ReadOnly),
         _ => None,
+    }
+}
+
+/// The type whose word a token is.
+pub(crate) fn read_type(token: &[u8]) -> Option<DataType>
+    ensures found { IfSome result (λ kind. token.now ≡ type_word kind) }
+    ensures none { IsNone result → (kind : DataType) → token.now ≢ type_word kind }
+{
+    match token {
+        b"MT" => Some(DataType::Mt),
+        b"I4" => Some(DataType::I4),
+        b"I8" => Some(DataType::I8),
+        b"U4" => Some(DataType::U4),
+        b"U8" => Some(DataType::U8),
+        b"R4" => Some(DataType::R4),
+        b"R8" => Some(DataType::R8),
+        b"X4" => Some(DataType::X4),
+        b"X8" => Some(DataType::X8),
+        b"B1" => Some(DataType::B1),
+        b"C1" => Some(DataType::C1),
+        b"LK" => Some(DataType::Lk),
+        _ => None,
+    }
+}
+
+/// The bytes of which a token spells each as a pair of digits: refused where it does not, or for
+/// want of memory.
+pub(crate) fn read_hex(alloc: Global, token: &[u8]) -> Result<Text, AdfError>
+    ensures found { IfOk result (λ bytes. IsHex token.now bytes) }
+    ensures none { result ≡ Err AdfError.Syntax → (bytes : List ℕ) → ¬ IsHex token.now bytes }
+    ensures why { IfErr result IsRefusal }
+{
+    if token.is_empty() {
+        return Err(AdfError::Syntax);
+    }
+    match hex::decode(alloc, token) {
+        Ok(bytes) => Ok(Text::new(bytes)),
+        Err(FromHexError::OutOfMemory) => Err(AdfError::Memory),
+        Err(_) => Err(AdfError::Syntax),
     }
 }
 

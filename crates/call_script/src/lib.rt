@@ -7,9 +7,12 @@
 #![tactic(auto)]
 
 mod calls;
+mod dims;
+mod edits;
 mod fields;
 pub mod laws;
 mod lines;
+mod reads;
 mod refusals;
 mod replies;
 mod tokens;

@@ -1,21 +1,25 @@
-//! A line is cut into its tokens.
+//! A text is cut into its tokens.
 
 ghost use Rattle.std.specs.Prelude.{◌≡◌, ◌==◌, ◌++◌, [], ◌∷◌, false, All, MatchOption};
 
-/// The tokens of a line that are still to be read.
+/// The tokens of a text that are still to be read; one such byte stands between two of them.
 #[derive(Drop)]
 pub(crate) struct Tokens<'a> {
-    /// The rest of the line: none behind the last token.
+    /// The rest of the text: none behind the last token.
     rest: Option<&'a [u8]>,
+    between: u8,
 }
 
 impl<'a> Tokens<'a> {
-    ghost use Rattle.call_script.specs.Tokens.{cut, tokens_left};
+    ghost use Rattle.call_script.specs.Tokens.{pieces_of, tokens_left};
 
-    pub(crate) fn new(line: &'a [u8]) -> Tokens<'a>
-        ensures { tokens_left result ≡ cut line.now }
+    pub(crate) fn new(text: &'a [u8], between: u8) -> Tokens<'a>
+        ensures { tokens_left result ≡ pieces_of between text.now }
     {
-        Tokens { rest: Some(line) }
+        Tokens {
+            rest: Some(text),
+            between,
+        }
     }
 
     /// The next token: none behind the last.
@@ -24,7 +28,7 @@ impl<'a> Tokens<'a> {
             ≡ token.now ∷ tokens_left self.new) }
     {
         let rest = self.rest?;
-        match split_at_byte(rest, b' ') {
+        match split_at_byte(rest, self.between) {
             Some((token, after)) => {
                 self.rest = Some(after);
                 Some(token)

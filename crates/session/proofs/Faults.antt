@@ -8,7 +8,7 @@ use Rattle.call_script.specs.declared.calls.Answer.{Answer}
 use Rattle.call_script.specs.declared.calls.Answer.TheVariants as answer
 use Rattle.call_script.specs.declared.calls.Call as script
 use Rattle.call_script.specs.declared.calls.Call.TheVariants as asks
-use Rattle.call_script.specs.declared.calls.OpenMode.TheVariants.{New}
+use Rattle.call_script.specs.declared.calls.OpenMode.TheVariants.{New, ReadWrite, ReadOnly}
 use Rattle.adf_model.specs.FaultReplies.{fault_replies, total_faults}
 use Rattle.adf_model.proofs.Answering.FaultBound.{Below, same_counts, stayed, any_counts, any_bound, below_before}
 use Rattle.adf_model.proofs.Answering.RunLaws.{told_for}
@@ -55,6 +55,9 @@ never_discards : (call : script.Call) (said : Answer) → is_discarding (call_ma
 never_discards (asks.Open number New limit) answer.Done = refl
 never_discards (asks.Open number New limit) (answer.Refused error) = refl
 never_discards (asks.Open number New limit) said = refl
+never_discards (asks.Open number ReadWrite limit) said = refl
+never_discards (asks.Open number ReadOnly limit) said = refl
+never_discards (asks.Discard number) said = refl
 never_discards (asks.Close number) answer.Done = refl
 never_discards (asks.Close number) (answer.Refused error) = refl
 never_discards (asks.Close number) said = refl

@@ -97,6 +97,14 @@ cut_short how files after before now line pending reply text left taken put said
       put = part.1.2;
     }
 
+-- nothing is put where memory was wanting
+pub nothing_put : (result : Result Unit Ended) (how : Ended) (taken : Option (List ℕ)) (wanted : List ℕ) → result ≡ Err how → how ≡ ended.Memory → IfErr result (λ how. IsCut how × AppendsPart taken taken wanted)
+nothing_put result how taken wanted e is = subst (λ (r : Result Unit Ended). IfErr r (λ how. IsCut how × AppendsPart taken taken wanted)) (sym (e ∙ ap Err is)) (tt, (0, omega arith, none taken))
+  where
+    none : (taken : Option (List ℕ)) → Appends taken taken (take 0 wanted)
+    none None = tt
+    none (Some bytes) = sym (append-nil bytes)
+
 -- what may be cut short, of the results of a printing
 pub short_of : (result : Result Unit Ended) (taken put : Option (List ℕ)) (line wanted : List ℕ) → line ≡ wanted
     → IfErr result (λ how. (how ≡ ended.SinkFault) × AppendsPart taken put line) → IfErr result (λ how. IsCut how × AppendsPart taken put wanted)

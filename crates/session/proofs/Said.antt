@@ -4,56 +4,47 @@ use Rattle.adf_model.specs.Slots.{Files, Devices}
 use Rattle.adf_model.specs.Steps.{Call, Opened, Closed, Skipped, Misread, Fresh}
 use Rattle.adf_model.specs.declared.error.AdfError.{AdfError}
 use Rattle.adf_model.specs.declared.error.AdfError.TheVariants as error
-use Rattle.adf_model.specs.declared.tree.Edit.{Edit}
-use Rattle.adf_model.specs.declared.tree.Edit.TheVariants as edit
-use Rattle.adf_model.specs.declared.tree.Query.{Query}
-use Rattle.adf_model.specs.declared.tree.Query.TheVariants.{ChildrenOf}
-use Rattle.call_script.specs.Lines.{IsLine, IsRefusal, AreTokens, AreQueryTokens, AreGroupTokens, AreEditTokens}
+use Rattle.adf_model.specs.declared.tree.Shape.{Shape}
+use Rattle.call_script.proofs.CallLaws.{one_call, opening_limit}
+use Rattle.call_script.specs.Causes.{IsRefusal}
+use Rattle.call_script.specs.Lines.{IsLine}
 use Rattle.call_script.specs.Replies.{HasRule, HasSpelling, reply_line, refusal_text}
 use Rattle.call_script.specs.declared.calls.Answer.{Answer}
 use Rattle.call_script.specs.declared.calls.Answer.TheVariants as answer
 use Rattle.call_script.specs.declared.calls.Call as script
 use Rattle.call_script.specs.declared.calls.Call.TheVariants as asks
 use Rattle.call_script.specs.declared.calls.OpenMode.{OpenMode}
-use Rattle.call_script.specs.declared.calls.OpenMode.TheVariants.{New}
+use Rattle.call_script.specs.declared.calls.OpenMode.TheVariants.{New, ReadWrite, ReadOnly}
 use Rattle.std.specs.Prelude.{Option, IfSome}
 use Rattle.adf_model.specs.declared.error.EditError.{EditError}
 use Rattle.adf_model.specs.Causes.{Anyway}
 use Rattle.adf_model.specs.NamedRules.{NamesRule, NamesRules}
 use Rattle.adf_model.proofs.Answering.RuleNames.{rules_named}
-use Rattle.session.specs.Calls.{IsBuiltQuery, IsBuiltEdit, IsBuiltGroup, PlainStep, PlainMakes}
-use Rattle.session.specs.Turns.{call_made, IsBuilt, is_skipped, Says}
+use Rattle.session.specs.Calls.{PlainStep, PlainMakes}
+use Rattle.session.specs.Turns.{call_made, IsBuilt, HasLimit, is_skipped, Says}
 use Rattle.session.specs.Turns.Says.{too_long, skips, makes, misreads, lacks_memory}
 
-built_query : (tokens : List (List ℕ)) (query : Query) → AreQueryTokens tokens query → IsBuiltQuery query
-built_query tokens (ChildrenOf node) are = tt
-built_query tokens _ are = absurd are
-
-built_edit : (tokens : List (List ℕ)) (edit : Edit) → AreEditTokens tokens edit → IsBuiltEdit edit
-built_edit tokens (edit.Create parent name label) are = tt
-built_edit tokens _ are = absurd are
-
-built_group : (tokens : List (List ℕ)) (edits : List Edit) → AreGroupTokens tokens edits → IsBuiltGroup edits
-built_group tokens [] are = absurd are
-built_group tokens (edit ∷ []) are = built_edit tokens edit are
-built_group tokens (edit ∷ other ∷ edits) are = absurd are
-
-built_tokens : (tokens : List (List ℕ)) (call : script.Call) → AreTokens tokens call → IsBuilt call
-built_tokens tokens (asks.Open number mode limit) are = are.2
-built_tokens tokens (asks.Close number) are = tt
-built_tokens tokens (asks.Ask query) are = built_query tokens query are
-built_tokens tokens (asks.Edit edits) are = built_group are.0 edits are.2
-
--- what a line makes may be made
-pub built : (line : List ℕ) (call : script.Call) → IsLine line call → IsBuilt call
-built line call is = built_tokens is.tokens call is.call_is
+-- what a line opens has a limit
+pub limited : (line : List ℕ) (call : script.Call) → IsLine line call → HasLimit call
+limited line (asks.Open number mode limit) is = opening_limit line number limit mode is
+limited line (asks.Close number) is = tt
+limited line (asks.Discard number) is = tt
+limited line (asks.Ask query) is = tt
+limited line (asks.Edit edits) is = tt
 
 -- an opening and a closing are made with the answer to them
-pub opened : (files after : Files) (before now : Devices) (number : ℕ) (mode : OpenMode) (limit : ℕ) (result : Result Unit AdfError) (said : Answer)
+opened : (files after : Files) (before now : Devices) (number : ℕ) (limit : ℕ) (result : Result Unit AdfError) (said : Answer)
+    → OnOk result (said ≡ answer.Done) → IfErr result (λ error. said ≡ answer.Refused error) → PlainMakes files before (Opened number (Fresh false) limit result) now after
+    → (made : Call) × (call_made (asks.Open number New limit) said ≡ Some made) × PlainMakes files before made now after
+opened files after before now number limit (Ok done) said is _ step = (_, ap (call_made (asks.Open number New limit)) is, step)
+opened files after before now number limit (Err error) said _ is step = (_, ap (call_made (asks.Open number New limit)) is, step)
+
+-- the same of a mode that is the one for a fresh file
+pub opened_as : (files after : Files) (before now : Devices) (number : ℕ) (mode : OpenMode) (limit : ℕ) (result : Result Unit AdfError) (said : Answer) → mode ≡ New
     → OnOk result (said ≡ answer.Done) → IfErr result (λ error. said ≡ answer.Refused error) → PlainMakes files before (Opened number (Fresh false) limit result) now after
     → (made : Call) × (call_made (asks.Open number mode limit) said ≡ Some made) × PlainMakes files before made now after
-opened files after before now number New limit (Ok done) said is _ step = (_, ap (call_made (asks.Open number New limit)) is, step)
-opened files after before now number New limit (Err error) said _ is step = (_, ap (call_made (asks.Open number New limit)) is, step)
+opened_as files after before now number mode limit result said is done refusal step =
+    subst (λ (m : OpenMode). (made : Call) × (call_made (asks.Open number m limit) said ≡ Some made) × PlainMakes files before made now after) (sym is) (opened files after before now number limit result said done refusal step)
 
 pub closed : (files after : Files) (before now : Devices) (number : ℕ) (result : Result Unit AdfError) (said : Answer)
     → OnOk result (said ≡ answer.Done) → IfErr result (λ error. said ≡ answer.Refused error) → PlainMakes files before (Closed number result) now after
@@ -71,9 +62,15 @@ pub refused : (files : Files) (before : Devices) (line : List ℕ) (given : AdfE
     → (made : Call) × Says line made (Some (refusal_text given)) × PlainMakes files before made before files
 refused files before line given short kept why none =
     elim why [
-      | inl is ↦ subst (λ (e : AdfError). (made : Call) × Says line made (Some (refusal_text e)) × PlainMakes files before made before files) (sym is) (Misread error.Syntax, misreads short kept (none is), nothing_made files before (Misread error.Syntax) (tt, refl, refl) (tt, refl, refl))
+      | inl is ↦ subst (λ (e : AdfError). (made : Call) × Says line made (Some (refusal_text e)) × PlainMakes files before made before files) (sym is) (Misread error.Syntax, misreads short kept (λ call k. absurd (none is call k)), nothing_made files before (Misread error.Syntax) (tt, refl, refl) (tt, refl, refl))
       | inr is ↦ subst (λ (e : AdfError). (made : Call) × Says line made (Some (refusal_text e)) × PlainMakes files before made before files) (sym is) (Misread error.Memory, lacks_memory short kept, nothing_made files before (Misread error.Memory) (tt, refl, refl) (tt, refl, refl))
     ]
+
+-- a line whose call may not be made yet is misread
+pub not_built : (files : Files) (before : Devices) (line : List ℕ) (call : script.Call) → length line ≤ 2 ^ 20 → is_skipped line ≡ false → IsLine line call → ¬ IsBuilt call
+    → (made : Call) × Says line made (Some (refusal_text error.Syntax)) × PlainMakes files before made before files
+not_built files before line call short kept is missing =
+    (Misread error.Syntax, misreads short kept (λ other k built. missing (subst IsBuilt (one_call line other call k is) built)), nothing_made files before (Misread error.Syntax) (tt, refl, refl) (tt, refl, refl))
 
 -- a skipped line changes nothing
 pub skipped : (files : Files) (before : Devices) (line : List ℕ) → length line ≤ 2 ^ 20 → is_skipped line ≡ true
@@ -101,17 +98,47 @@ refused_spells : (call : script.Call) (given : AdfError) (made : Call) → call_
 refused_spells (asks.Open number New limit) given made e names = rule_has given (subst (λ (o : Option Call). IfSome o NamesRules) (sym e) names)
 refused_spells (asks.Close number) given made e names = rule_has given (subst (λ (o : Option Call). IfSome o NamesRules) (sym e) names)
 refused_spells (asks.Ask query) given made e names = rule_has given (subst (λ (o : Option Call). IfSome o NamesRules) (sym e) names)
+refused_spells (asks.Open number ReadWrite limit) given made e names = absurd cc
+refused_spells (asks.Open number ReadOnly limit) given made e names = absurd cc
+refused_spells (asks.Discard number) given made e names = absurd cc
 refused_spells (asks.Edit edits) given made e names = absurd cc
 
 edit_spells : (call : script.Call) (refusal : EditError) (made : Call) → call_made call (answer.EditRefused refusal) ≡ Some made → NamesRules made → HasRule refusal.error
 edit_spells (asks.Open number New limit) refusal made e names = absurd cc
+edit_spells (asks.Open number ReadWrite limit) refusal made e names = absurd cc
+edit_spells (asks.Open number ReadOnly limit) refusal made e names = absurd cc
 edit_spells (asks.Close number) refusal made e names = absurd cc
+edit_spells (asks.Discard number) refusal made e names = absurd cc
 edit_spells (asks.Ask query) refusal made e names = absurd cc
 edit_spells (asks.Edit edits) refusal made e names = rule_has refusal.error (subst (λ (o : Option Call). IfSome o NamesRules) (sym e) names)
+
+no_call : (call : Call) → ◌≡◌ {A = Option Call} None (Some call) → ⊥
+no_call call e = cc
+
+-- no call of today is answered with a shape or with data
+never_shape : (call : script.Call) (shape : Shape) (made : Call) → call_made call (answer.Shape shape) ≡ Some made → ⊥
+never_shape (asks.Open number New limit) shape made e = no_call made e
+never_shape (asks.Open number ReadWrite limit) shape made e = no_call made e
+never_shape (asks.Open number ReadOnly limit) shape made e = no_call made e
+never_shape (asks.Close number) shape made e = no_call made e
+never_shape (asks.Discard number) shape made e = no_call made e
+never_shape (asks.Ask query) shape made e = no_call made e
+never_shape (asks.Edit edits) shape made e = no_call made e
+
+never_hex : (call : script.Call) (bytes : List ℕ) (made : Call) → call_made call (answer.Hex bytes) ≡ Some made → ⊥
+never_hex (asks.Open number New limit) bytes made e = no_call made e
+never_hex (asks.Open number ReadWrite limit) bytes made e = no_call made e
+never_hex (asks.Open number ReadOnly limit) bytes made e = no_call made e
+never_hex (asks.Close number) bytes made e = no_call made e
+never_hex (asks.Discard number) bytes made e = no_call made e
+never_hex (asks.Ask query) bytes made e = no_call made e
+never_hex (asks.Edit edits) bytes made e = no_call made e
 
 said_spells : (call : script.Call) (said : Answer) (made : Call) → call_made call said ≡ Some made → NamesRules made → HasSpelling said
 said_spells call (answer.Refused given) made e names = refused_spells call given made e names
 said_spells call (answer.EditRefused refusal) made e names = edit_spells call refusal made e names
+said_spells call (answer.Shape shape) made e names = absurd (never_shape call shape made e)
+said_spells call (answer.Hex bytes) made e names = absurd (never_hex call bytes made e)
 said_spells call said made e names = tt
 
 -- the answer to a call that was made for a line has a spelling

@@ -10,6 +10,7 @@ use Rattle.call_script.specs.declared.calls.Answer.{Answer}
 use Rattle.call_script.specs.declared.calls.Answer.TheVariants as answer
 use Rattle.call_script.specs.declared.calls.Call as script
 use Rattle.call_script.specs.declared.calls.Call.TheVariants as asks
+use Rattle.call_script.specs.declared.calls.OpenMode.{OpenMode}
 use Rattle.call_script.specs.declared.calls.OpenMode.TheVariants.{New}
 use Rattle.session.specs.Calls.{IsBuiltQuery, IsBuiltGroup, PlainStep, PlainMakes}
 
@@ -25,24 +26,35 @@ call_made (asks.Edit edits) (answer.Created nodes) = Some (Changed edits (Ok nod
 call_made (asks.Edit edits) (answer.EditRefused refusal) = Some (Changed edits (Err refusal))
 call_made call other = None
 
+-- an opening that a line may make today
+abbrev pub IsBuiltOpening : OpenMode → Type 0
+IsBuiltOpening New = ⊤
+IsBuiltOpening mode = ⊥
+
 -- a call that a line may make today
 abbrev pub IsBuilt : script.Call → Type 0
-IsBuilt (asks.Open number mode limit) = (1 ≤ limit) × (limit ≤ 2 ^ 32)
+IsBuilt (asks.Open number mode limit) = IsBuiltOpening mode
 IsBuilt (asks.Close number) = ⊤
+IsBuilt (asks.Discard number) = ⊥
 IsBuilt (asks.Ask query) = IsBuiltQuery query
 IsBuilt (asks.Edit edits) = IsBuiltGroup edits
+
+-- an opening names a limit from 1 to 2^32
+abbrev pub HasLimit : script.Call → Type 0
+HasLimit (asks.Open number mode limit) = (1 ≤ limit) × (limit ≤ 2 ^ 32)
+HasLimit call = ⊤
 
 -- a line that is skipped: it is empty, or begins with `#`
 abbrev pub is_skipped : List ℕ → Bool
 is_skipped [] = true
 is_skipped (first ∷ rest) = first == 35
 
--- which call a line is, and the line that is printed for it: none for a skipped line; want of memory may take the place of every other reply
+-- which call a line is, and the line that is printed for it: none for a skipped line; want of memory may take the place of every other reply. A line whose call may not be made yet is misread
 pub data Says (line : List ℕ) : Call → Option (List ℕ) → Type 0 where
   too_long : 2 ^ 20 < length line → Says line (Misread error.LineTooLong) (Some (refusal_text error.LineTooLong))
   skips : length line ≤ 2 ^ 20 → is_skipped line ≡ true → Says line Skipped None
   makes : length line ≤ 2 ^ 20 → is_skipped line ≡ false → (call : script.Call) (answer : Answer) (made : Call) → IsLine line call → call_made call answer ≡ Some made → Says line made (Some (reply_line answer))
-  misreads : length line ≤ 2 ^ 20 → is_skipped line ≡ false → ((call : script.Call) → ¬ IsLine line call) → Says line (Misread error.Syntax) (Some (refusal_text error.Syntax))
+  misreads : length line ≤ 2 ^ 20 → is_skipped line ≡ false → ((call : script.Call) → IsLine line call → ¬ IsBuilt call) → Says line (Misread error.Syntax) (Some (refusal_text error.Syntax))
   lacks_memory : length line ≤ 2 ^ 20 → is_skipped line ≡ false → Says line (Misread error.Memory) (Some (refusal_text error.Memory))
 
 -- a line, the call that it is, and what is printed for it

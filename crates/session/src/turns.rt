@@ -1,14 +1,14 @@
 //! One line of a session.
 
-ghost use Rattle.std.specs.Prelude.{◌≡◌, ◌^◌, ◌≤◌, length, IfErr, IfSome, OnOk, Some, None};
+ghost use Rattle.std.specs.Prelude.{◌≡◌, ◌^◌, ◌≤◌, length, true, false, IfErr, IfSome, OnOk, Some, None};
 ghost use Rattle.std.specs.Option.{option_map};
 ghost use Rattle.adf_model.specs.Steps as steps;
 ghost use Rattle.call_script.specs.Replies.{HasSpelling, reply_line};
 ghost use Rattle.session.specs.Calls.{PlainMakes};
-ghost use Rattle.session.specs.Turns.{IsBuilt, call_made, is_skipped, Says};
+ghost use Rattle.session.specs.Turns.{IsBuilt, HasLimit, call_made, is_skipped, Says};
 
 use crate::calls::FileCalls;
-use adf_model::{AdfError, Mode, Reply};
+use adf_model::{AdfError, Edit, Mode, Query, Reply};
 use call_script::{Answer, Call, OpenMode, read_line};
 use std::alloc::Global;
 
@@ -27,8 +27,27 @@ pub(crate) fn take_turn<C: FileCalls>(alloc: Global, calls: &mut C, line: &[u8])
         return None;
     }
     match read_line(alloc, line) {
-        Ok(call) => Some(answer_to(calls, &call)),
+        Ok(call) => {
+            if is_built(&call) {
+                return Some(answer_to(calls, &call));
+            }
+            Some(Answer::Refused(AdfError::Syntax))
+        }
         Err(error) => Some(Answer::Refused(error)),
+    }
+}
+
+// Whether the call may be made yet. All others are lines of the language that are not there so far.
+fn is_built(call: &Call) -> bool
+    ensures built { result ≡ true → IsBuilt call.now }
+    ensures missing { result ≡ false → ¬ IsBuilt call.now }
+{
+    match call {
+        Call::Open { mode, .. } => *mode == OpenMode::New,
+        Call::Close { .. } => true,
+        Call::Discard { .. } => false,
+        Call::Ask(query) => matches!(query, Query::ChildrenOf { .. }),
+        Call::Edit(edits) => matches!(edits.items(), [Edit::Create { .. }]),
     }
 }
 
@@ -46,6 +65,7 @@ fn skips(line: &[u8]) -> bool
 fn answer_to<C: FileCalls>(calls: &mut C, call: &Call) -> Answer
     requires ready { C.is_ready calls.old }
     requires built { IsBuilt call.now }
+    requires limit { HasLimit call.now }
     ensures ready { C.is_ready calls.new }
     ensures step { (made : steps.Call) × (call_made call.now result ≡ Some made)
         × PlainMakes (C.files calls.old) (C.devices calls.old) made (C.devices calls.new)
@@ -57,6 +77,7 @@ fn answer_to<C: FileCalls>(calls: &mut C, call: &Call) -> Answer
             mode: OpenMode::New,
             limit,
         } => done(calls.open(*number, Mode::New, *limit)),
+        Call::Open { .. } | Call::Discard { .. } => unreachable!(),
         Call::Close { number } => done(calls.close(*number)),
         Call::Ask(query) => match calls.ask(query) {
             Ok(Reply::Children(children)) => Answer::Children(children),

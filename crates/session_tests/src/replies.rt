@@ -2,7 +2,9 @@
 
 ghost use Rattle.call_script.specs.Replies.{HasSpelling};
 
-use adf_model::{AdfError, Child, Children, EditError, NodeId, Serials, Text};
+use adf_model::{
+    AdfError, Child, Children, DataType, EditError, Format, NodeId, Serials, Shape, Text,
+};
 use call_script::{Answer, reply_text};
 use std::alloc::Global;
 use std::test::Fail;
@@ -73,6 +75,74 @@ fn answers_are_printed(rt: HostRuntime) -> Result<(), Fail> {
     assert!(rt; is_printed(alloc, &none, b"ok 0")?);
     assert!(rt; is_printed(alloc, &children, b"ok 2 3.12 100%25%3B%20%FF 3.4 %")?);
     assert!(rt; is_printed(alloc, &created, b"ok 0.1 4294967295.18446744073709551615")?);
+    Ok(())
+}
+
+fn text_of(alloc: Global, bytes: &[u8]) -> Result<Text, Fail> {
+    Ok(Text::new(bytes.to_vec(alloc)?))
+}
+
+// Whether a text has this line.
+fn is_text(alloc: Global, bytes: &[u8], line: &[u8]) -> Result<bool, Fail> {
+    is_printed(alloc, &Answer::Text(text_of(alloc, bytes)?), line)
+}
+
+// The same of bytes of data, which are not empty.
+fn is_data(alloc: Global, bytes: &[u8], line: &[u8]) -> Result<bool, Fail> {
+    let data = text_of(alloc, bytes)?;
+    if data.items().is_empty() {
+        return Ok(false);
+    }
+    is_printed(alloc, &Answer::Hex(data), line)
+}
+
+// The same of a shape of at most twelve dimensions.
+fn is_shape(
+    alloc: Global,
+    kind: DataType,
+    rank: u8,
+    dims: [u64; 12],
+    line: &[u8],
+) -> Result<bool, Fail> {
+    if rank > 12 {
+        return Ok(false);
+    }
+    is_printed(alloc, &Answer::Shape(Shape { kind, rank, dims }), line)
+}
+
+fn is_link(alloc: Global, file: &[u8], path: &[u8], line: &[u8]) -> Result<bool, Fail> {
+    let answer = Answer::Link {
+        file: text_of(alloc, file)?,
+        path: text_of(alloc, path)?,
+    };
+    is_printed(alloc, &answer, line)
+}
+
+#[test]
+fn answers_to_queries_are_printed(rt: HostRuntime) -> Result<(), Fail> {
+    let alloc = rt.alloc();
+    let node = Answer::Node(NodeId {
+        file: 1,
+        serial: 20,
+    });
+    let dims = [3, 18446744073709551615, 0, 0, 0, 0, 0, 0, 0, 0, 0, 0];
+    assert!(rt; is_text(alloc, b"", b"ok %")?);
+    assert!(rt; is_text(alloc, b"Root Node;", b"ok Root%20Node%3B")?);
+    assert!(rt; is_data(alloc, b"\x00\xAB\xfe", b"ok 00abfe")?);
+    assert!(rt; is_shape(alloc, DataType::Mt, 0, dims, b"ok MT -")?);
+    assert!(rt;
+        is_shape(
+            alloc,
+            DataType::X4,
+            2,
+            dims,
+            b"ok X4 3,18446744073709551615"
+        )?
+    );
+    assert!(rt; is_link(alloc, b"", b"/X Y", b"ok % /X%20Y")?);
+    assert!(rt; is_printed(alloc, &node, b"ok 1.20")?);
+    assert!(rt; is_printed(alloc, &Answer::Format(Format::Little), b"ok L")?);
+    assert!(rt; is_printed(alloc, &Answer::Format(Format::Big), b"ok B")?);
     Ok(())
 }
 

@@ -22,7 +22,7 @@ struct Case {
     printed: &'static [u8],
 }
 
-static CASES: [Case; 9] = [
+static CASES: [Case; 10] = [
     Case {
         lines: b"",
         failing_take: None,
@@ -43,6 +43,13 @@ static CASES: [Case; 9] = [
         failing_put: None,
         ended: Ended::Done,
         printed: b"E30 Syntax\n",
+    },
+    Case {
+        lines: b"discard 0\nopen 0 rw 1\nname 0.0\nedit delete 0.1\nedit create 0.0 A % ; delete 0.1",
+        failing_take: None,
+        failing_put: None,
+        ended: Ended::Done,
+        printed: b"E30 Syntax\nE30 Syntax\nE30 Syntax\nE30 Syntax\nE30 Syntax\n",
     },
     Case {
         lines: b"open 0 new 16\nedit create 0.0 A %\n\nchildren 0.0\nclose 0",

@@ -1,6 +1,6 @@
 use Rattle.std.proofs.Common.{sym, subst}
 use Rattle.call_script.specs.Lines.{AreTokens}
-use Rattle.call_script.proofs.CallTokens.{line_found, line_tokens}
+use Rattle.call_script.proofs.CallLaws.{line_found, line_tokens}
 use Rattle.call_script.proofs.lines.read_line.Goals as goal
 
 pub returns-clause-found : goal.returns-clause-found

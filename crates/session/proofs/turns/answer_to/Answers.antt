@@ -1,9 +1,9 @@
-use Rattle.std.proofs.Common.{refl}
-use Rattle.session.proofs.Said.{opened, closed}
+use Rattle.std.proofs.Common.{refl, rules}
+use Rattle.session.proofs.Said.{opened_as, closed}
 use Rattle.session.proofs.turns.answer_to.Goals as goal
 
 pub returns-in-Open-default-New-default-clause-step : goal.returns-in-Open-default-New-default-clause-step
-returns-in-Open-default-New-default-clause-step g c = rw c.in-Open-default-New-default.is (opened _ _ _ _ _ c.in-Open-default-New-default.mode _ _ _ c.done.ensures.done c.done.ensures.refused (c.open.ensures.makes))
+returns-in-Open-default-New-default-clause-step g c = rw c.in-Open-default-New-default.is (opened_as _ _ _ _ _ c.in-Open-default-New-default.mode _ _ _ (search rules) c.done.ensures.done c.done.ensures.refused (c.open.ensures.makes))
 
 pub returns-in-Close-clause-step : goal.returns-in-Close-clause-step
 returns-in-Close-clause-step g c = rw c.in-Close.is (closed _ _ _ _ _ _ _ c.done-in-Close.ensures.done c.done-in-Close.ensures.refused (c.close.ensures.makes))

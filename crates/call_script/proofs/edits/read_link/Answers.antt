@@ -1,0 +1,16 @@
+use Rattle.std.proofs.Common.{refl}
+use Rattle.call_script.specs.Fields.Kind.{a_text}
+use Rattle.call_script.proofs.Reading.{ended_by, fails_here, fails_later}
+use Rattle.call_script.proofs.edits.read_link.Goals as goal
+
+pub returns-in_err-name : goal.returns-in_err-name
+returns-in_err-name c = rw (ended_by _ _ c.from_residual.ensures.1) (fails_here a_text _ _ _ c.in_err-name.ensures)
+
+pub returns-in_err-file : goal.returns-in_err-file
+returns-in_err-file c = rw (ended_by _ _ c.from_residual-in_err-file.ensures.1) (fails_later a_text _ _ _ _ _ c.in_ok-name.ensures (fails_here a_text _ _ _ c.in_err-file.ensures))
+
+pub returns-in_err-path : goal.returns-in_err-path
+returns-in_err-path c = rw (ended_by _ _ c.from_residual-in_err-path.ensures.1) (fails_later a_text _ _ _ _ _ c.in_ok-name.ensures (fails_later a_text _ _ _ _ _ c.in_ok-file.ensures c.in_err-path.ensures))
+
+pub returns : goal.returns
+returns c = ((_, (_, (_, tt))), refl, (_, c.in_ok-name.ensures, (_, c.in_ok-file.ensures, (_, c.in_ok-path.ensures, refl))))
