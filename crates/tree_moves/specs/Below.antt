@@ -35,7 +35,7 @@ pub record IsDepthBelow (rows : List (Option Row)) (top depth deep : ℕ) : Type
   pub below : is_below rows top depth serial ≡ true
   pub deep_is : row.depth ≡ deep
 
--- none of the first serials stands deeper below a node
+-- a serial does not stand deeper below a node
 abbrev pub NoneDeeper : List (Option Row) → ℕ → ℕ → ℕ → ℕ → Type 0
 NoneDeeper rows top depth deep serial = is_below rows top depth serial ≡ true → IfSome (row_of rows serial) (λ row. row.depth ≤ deep)
 
@@ -66,7 +66,7 @@ pub record Shifts (old new : List (Option Row)) (top from parent to : ℕ) (row 
   pub count : length new ≡ length old
   pub each : (k : ℕ) → row_of new k ≡ (if k == top then Some (record row { parent = Some parent; depth = to }) else shifted_row old top from to k)
 
--- the deepest node below fits below another depth
+-- a serial that stands below a node has room as far below another depth
 abbrev pub FitsBelow : List (Option Row) → ℕ → ℕ → ℕ → ℕ → Type 0
 FitsBelow rows top from to serial = is_below rows top from serial ≡ true → IfSome (row_of rows serial) (λ row. row.depth + to ≤ 255 + from)
 

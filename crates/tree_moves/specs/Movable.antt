@@ -111,7 +111,7 @@ pub record MayLeave (core : Core) (node at : NodeId) (held : Option (List ℕ)) 
   pub may : MayTry core node at held row to
   pub leaves : LeavesParent core node at row parent
 
--- a node moves within the list of its parent; the entry that is its own there
+-- the entry of a node in the table of its new parent: none where that is another than the old one
 abbrev pub own_entry : Bool → Listed → Option ℕ
 own_entry last listed = if last then Some listed.position else None
 
