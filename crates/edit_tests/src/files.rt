@@ -91,7 +91,7 @@ fn put_node(space: &mut Bytes, at: u64, header: &NodeHeader) -> bool
 // The header and the free table.
 fn put_front(space: &mut Bytes, wide: bool) -> bool {
     let what = if wide {
-        b"@(#)ADF Database Version B02012>"
+        b"@(#)ADF Database Version W02012>"
     } else {
         b"@(#)ADF Database Version A02007>"
     };

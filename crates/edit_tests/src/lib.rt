@@ -2,12 +2,18 @@
 #![tactic(auto)]
 
 #[cfg(test)]
+mod children;
+#[cfg(test)]
 mod faults;
 #[cfg(test)]
 mod files;
 #[cfg(test)]
+mod labels;
+#[cfg(test)]
 mod links;
 #[cfg(test)]
-mod steps;
+mod moves;
 #[cfg(test)]
-mod tests;
+mod names;
+#[cfg(test)]
+mod steps;

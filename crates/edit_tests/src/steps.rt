@@ -10,6 +10,7 @@ use std::process::Abort;
 use std::test::Fail;
 use test_spaces::Bytes;
 use tree_edits::{Core, Row, Rows, create, link, rename, set_label};
+use tree_moves::move_to;
 
 /// An edit, or what is expected where it stands.
 #[derive(Clone, Copy)]
@@ -62,6 +63,23 @@ pub enum Step {
         file: &'static [u8],
         path: &'static [u8],
         error: AdfError,
+    },
+    /// A node that moves below another.
+    Move {
+        node: u64,
+        to: u64,
+    },
+    /// A move that is refused.
+    NoMove {
+        node: u64,
+        to: u64,
+        error: AdfError,
+    },
+    /// Where a node stands.
+    Stands {
+        node: u64,
+        below: u64,
+        depth: u8,
     },
     /// Bytes that are put into the space behind the edits' back.
     Put {
@@ -184,6 +202,25 @@ fn links(
     )
 }
 
+fn moves(space: &mut Bytes, core: &mut Core, serial: u64, to: u64) -> Result<(), AdfError> {
+    if !core.rows.are_near(core.wide) {
+        return Err(NOT_CALLED);
+    }
+    let to = NodeId {
+        file: 0,
+        serial: to,
+    };
+    move_to(space, core, NodeId { file: 0, serial }, to)
+}
+
+// Whether a node stands below another at a depth.
+fn stands(core: &Core, serial: u64, below: u64, depth: u8) -> bool {
+    match core.rows.get(serial) {
+        Some(row) => row.parent == Some(below) && row.depth == depth,
+        None => false,
+    }
+}
+
 // Whether an edit is refused with an error; where it wants memory or a read failed otherwise, that is the answer.
 fn is_refused(answer: Result<(), AdfError>, wanted: AdfError) -> Result<bool, AdfError> {
     match answer {
@@ -238,6 +275,12 @@ fn make(alloc: Global, space: &mut Bytes, core: &mut Core, step: Step) -> Result
             Ok(_) => Ok(false),
             Err(answer) => is_refused(Err(answer), error),
         },
+        Step::Move { node, to } => {
+            moves(space, core, node, to)?;
+            Ok(true)
+        }
+        Step::NoMove { node, to, error } => is_refused(moves(space, core, node, to), error),
+        Step::Stands { node, below, depth } => Ok(stands(core, node, below, depth)),
         Step::Put { at, bytes } => Ok(space.put(at, bytes)),
         _ => Ok(true),
     }
