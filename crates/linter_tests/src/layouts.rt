@@ -6,9 +6,7 @@ ghost use Rattle.block_cache.specs.Cache.{IsCache};
 ghost use Rattle.layout_lint.specs.Walks.{node_place};
 ghost use Rattle.layout_lint.specs.Shapes.{AreLinked};
 
-use crate::images::Image;
 use crate::rules::verdict;
-use crate::samples::{Sample, image_of};
 use adf_model::{AdfError, Text};
 use block_cache::BlockCache;
 use cg_io::MemoryDevice;
@@ -16,6 +14,7 @@ use layout_lint::{
     ExtentKind, Extents, Format, NodeNames, NodePlace, NodePlaces, Owned, OwnedExtents, Surveyed,
     Verdict, extents, lint, owned_extents, path_of, survey, survey_places,
 };
+use sample_files::{Image, Sample, image_of};
 use std::alloc::Global;
 use std::test::Fail;
 

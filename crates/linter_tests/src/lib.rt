@@ -5,12 +5,8 @@
 #![tactic(auto)]
 
 #[cfg(test)]
-mod images;
-#[cfg(test)]
 mod layouts;
 #[cfg(test)]
 mod reports;
 #[cfg(test)]
 mod rules;
-#[cfg(test)]
-mod samples;

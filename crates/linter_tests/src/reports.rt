@@ -1,10 +1,9 @@
 //! Reports on files in memory.
 
-use crate::images::Change;
-use crate::samples::{Sample, image_of};
 use adf_model::AdfError;
 use cg_io::{MemoryDevice, MemorySink};
 use layout_report::{Report, lint_file, map_file};
+use sample_files::{Change, Sample, image_of};
 use std::alloc::Global;
 use std::test::Fail;
 

@@ -1,11 +1,10 @@
 //! Files that break a rule: which, and where.
 
-use crate::images::{Change, Image};
-use crate::samples::{Sample, image_of};
 use adf_model::AdfError;
 use block_cache::BlockCache;
 use cg_io::MemoryDevice;
 use layout_lint::{Verdict, lint};
+use sample_files::{Change, Image, Sample, image_of};
 use std::alloc::Global;
 use std::process::Abort;
 use std::test::Fail;

@@ -1,11 +1,11 @@
 //! Copies of files: how long they are, what they hold, and what is refused.
 
-use crate::samples::{Sample, image_of};
 use adf_model::{AdfError, Text};
 use adf_repack::{Target, repack, write_packed};
 use block_cache::BlockCache;
 use cg_io::{Blocks, MemoryDevice};
 use layout_lint::{Verdict, lint};
+use sample_files::{Sample, image_of};
 use std::alloc::{AllocError, Global};
 use std::test::Fail;
 
@@ -167,7 +167,7 @@ const ROWS: [Row; 17] = [
     (Sample::OneChildWide, Target::Narrow, Outcome::Ends(821)),
     (Sample::LongDimension, Target::Same, Outcome::Ends(1013)),
     (Sample::LongDimension, Target::Narrow, Outcome::Refused(14)),
-    (Sample::TwoChunks, Target::Same, Outcome::Ends(853)),
+    (Sample::LinkInChunks, Target::Same, Outcome::Ends(853)),
     (Sample::NineChildren, Target::Same, Outcome::Ends(3141)),
     (Sample::MovedRoot, Target::Same, Outcome::Ends(1421)),
     (Sample::ThreeChunks, Target::Same, Outcome::Ends(5841)),
@@ -222,7 +222,7 @@ fn is_copied_as(alloc: Global, sample: Sample, target: Target, wanted: Sample) -
 const BYTES: [(Sample, Target, Sample); 4] = [
     (Sample::OneChild, Target::Same, Sample::PackedOneChild),
     (Sample::OneChild, Target::Wide, Sample::PackedWide),
-    (Sample::TwoChunks, Target::Same, Sample::PackedLink),
+    (Sample::LinkInChunks, Target::Same, Sample::PackedLink),
     (Sample::ThreeChunks, Target::Same, Sample::PackedData),
 ];
 
@@ -266,7 +266,7 @@ const SOUND: [Sample; 9] = [
     Sample::FreshWide,
     Sample::OneChild,
     Sample::OneChildWide,
-    Sample::TwoChunks,
+    Sample::LinkInChunks,
     Sample::NineChildren,
     Sample::MovedRoot,
     Sample::ThreeChunks,

@@ -6,7 +6,3 @@
 
 #[cfg(test)]
 mod copies;
-#[cfg(test)]
-mod images;
-#[cfg(test)]
-mod samples;

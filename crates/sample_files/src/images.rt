@@ -4,6 +4,9 @@ use adf_model::Text;
 use disk_ptr::{encode, from_place, write_hex};
 use std::alloc::{AllocError, Global};
 
+/// A text and where it is put.
+pub type Change = (usize, &'static [u8]);
+
 /// A part of a file. Places are bytes from its start.
 #[derive(Clone, Copy, Drop)]
 pub enum Part {
@@ -165,6 +168,18 @@ impl Image {
                 self.put(at as usize, &[0u8; 256][..usize::from(length)]);
             }
         }
+    }
+
+    /// Makes some changes, one after another.
+    pub fn change(&mut self, changes: &[Change]) {
+        for (at, text) in changes {
+            self.put(*at, text);
+        }
+    }
+
+    /// Leaves the first bytes alone.
+    pub fn cut(&mut self, length: usize) {
+        self.bytes.truncate(length);
     }
 
     /// The bytes.

@@ -1,4 +1,4 @@
-//! The files that the tests look at and damage.
+//! Files, sound and not, and what packed copies of some of them are.
 
 use crate::images::{Image, Part, chain};
 use std::alloc::{AllocError, Global};
@@ -14,8 +14,12 @@ pub enum Sample {
     OneChild,
     /// The same of the wide version.
     OneChildWide,
+    /// The same with a dimension of 2^32, and no data.
+    LongDimension,
     /// One child of six bytes in two chunks that a table lists.
     TwoChunks,
+    /// The same, a link.
+    LinkInChunks,
     /// Nine children, and a free chunk where the table for eight stood.
     NineChildren,
     /// The same with a tenth child where the free chunk began.
@@ -23,6 +27,8 @@ pub enum Sample {
     /// The root stands at 600: behind a filler, its grandchild `C` and a filler, and before its
     /// children `A b` and `B`.
     MovedRoot,
+    /// One child with 5,000 bytes in three chunks, none of which begins with a block.
+    ThreeChunks,
     /// Three blocks: the one child is a link whose text has 4,096 bytes, and a filler and a free chunk
     /// follow.
     ThreeBlocks,
@@ -30,6 +36,14 @@ pub enum Sample {
     NodeInside,
     /// A chain of so many nodes.
     Chain(u16),
+    /// `OneChild`, packed.
+    PackedOneChild,
+    /// `OneChild`, packed in the wide version.
+    PackedWide,
+    /// `LinkInChunks`, packed.
+    PackedLink,
+    /// `ThreeChunks`, packed.
+    PackedData,
 }
 
 const ROOT: &[u8] = b"ADF MotherNode";
@@ -59,6 +73,12 @@ const ONE_CHILD_WIDE: [Part; 6] = [
     Part::Entry(950, 0, b"Base", 608),
 ];
 
+// Over a wide file with one child.
+const LONG_DIMENSION: [Part; 2] = [
+    Part::Bytes(704, b"C1"),
+    Part::Bytes(736, b"010000000100000000"),
+];
+
 // Over a file with one child.
 const INSIDE: [Part; 3] = [
     Part::Bytes(334, b"00000002"),
@@ -81,6 +101,36 @@ const CHUNKS: [Part; 13] = [
     Part::Framed(1198, 32, b"DaTa", b"dEnD"),
     Part::Framed(1230, 32, b"DaTa", b"dEnD"),
     Part::Bytes(1214, b"f>/Xyz"),
+];
+
+// Over a file with a child in two chunks.
+const LINK: [Part; 1] = [Part::Bytes(608, b"LK")];
+
+// Over a file with one child.
+const LONG_CHUNKS: [Part; 18] = [
+    Part::Pointer(146, 9999),
+    Part::Bytes(190, b"0000000013880000000017E8"),
+    Part::Bytes(190, b"000000001000000000001000"),
+    Part::Bytes(608, b"C1"),
+    Part::Bytes(640, b"0100001388"),
+    Part::Bytes(738, b"0003"),
+    Part::Pointer(742, 1200),
+    Part::Framed(1200, 92, b"DCtb", b"dcTE"),
+    Part::Pointer(1216, 7000),
+    Part::Pointer(1228, 9016),
+    Part::Pointer(1240, 2000),
+    Part::Pointer(1252, 4016),
+    Part::Pointer(1264, 5000),
+    Part::Pointer(1276, 6216),
+    Part::Framed(7000, 2020, b"DaTa", b"dEnD"),
+    Part::Framed(2000, 2020, b"DaTa", b"dEnD"),
+    Part::Framed(5000, 1220, b"DaTa", b"dEnD"),
+    Part::Counted(7016, 2000, 0),
+];
+
+const LONG_DATA: [Part; 2] = [
+    Part::Counted(2016, 2000, 208),
+    Part::Counted(5016, 1200, 160),
 ];
 
 const NINE_CHILDREN: [Part; 24] = [
@@ -148,35 +198,85 @@ const LONG_LINK: [Part; 10] = [
     Part::Bytes(9016, b"000000001000"),
 ];
 
-fn drawn(
-    alloc: Global,
-    length: usize,
-    first: &[Part],
-    second: &[Part],
-) -> Result<Image, AllocError> {
+// Over blank bytes: a packed header has zeros for its dates.
+const NO_DATES: [Part; 2] = [Part::Zeros(36, 28), Part::Zeros(68, 28)];
+
+const PACKED_ONE_CHILD: [Part; 5] = [
+    Part::Head(821),
+    Part::Node(266, ROOT, 1, 1, 512),
+    Part::Table(512, 1),
+    Part::Entry(512, 0, b"Base", 576),
+    Part::Node(576, b"Base", 0, 0, 0),
+];
+
+const PACKED_WIDE: [Part; 6] = [
+    Part::Head(1013),
+    Part::Bytes(25, b"W"),
+    Part::WideNode(266, ROOT, 1, 1, 608),
+    Part::Table(608, 1),
+    Part::Entry(608, 0, b"Base", 672),
+    Part::WideNode(672, b"Base", 0, 0, 0),
+];
+
+const PACKED_LINK: [Part; 12] = [
+    Part::Head(853),
+    Part::Node(266, ROOT, 1, 1, 512),
+    Part::Table(512, 1),
+    Part::Entry(512, 0, b"Base", 576),
+    Part::Node(576, b"Base", 0, 0, 0),
+    Part::Bytes(672, b"LK"),
+    Part::Bytes(704, b"0100000006"),
+    Part::Bytes(802, b"0001"),
+    Part::Pointer(806, 822),
+    Part::Framed(822, 32, b"DaTa", b"dEnD"),
+    Part::Bytes(838, b"f>/Xyz"),
+    Part::Zeros(844, 6),
+];
+
+const PACKED_DATA: [Part; 11] = [
+    Part::Head(5841),
+    Part::Node(266, ROOT, 1, 1, 512),
+    Part::Table(512, 1),
+    Part::Entry(512, 0, b"Base", 576),
+    Part::Node(576, b"Base", 0, 0, 0),
+    Part::Bytes(672, b"C1"),
+    Part::Bytes(704, b"0100001388"),
+    Part::Bytes(802, b"0001"),
+    Part::Pointer(806, 822),
+    Part::Framed(822, 5020, b"DaTa", b"dEnD"),
+    Part::Counted(838, 5000, 0),
+];
+
+fn drawn(alloc: Global, length: usize, parts: &[&[Part]]) -> Result<Image, AllocError> {
     let mut image = Image::blank(alloc, length)?;
-    for part in first {
-        image.draw(*part);
-    }
-    for part in second {
-        image.draw(*part);
+    for some in parts {
+        for part in *some {
+            image.draw(*part);
+        }
     }
     Ok(image)
 }
 
-/// The bytes of a sample.
+/// The bytes of a file, those of a copy without the bytes behind its end.
 pub fn image_of(alloc: Global, sample: Sample) -> Result<Image, AllocError> {
     match sample {
-        Sample::Fresh => drawn(alloc, 4096, &FRESH, &[]),
-        Sample::FreshWide => drawn(alloc, 4096, &FRESH_WIDE, &[]),
-        Sample::OneChild => drawn(alloc, 4096, &ONE_CHILD, &[]),
-        Sample::OneChildWide => drawn(alloc, 4096, &ONE_CHILD_WIDE, &[]),
-        Sample::TwoChunks => drawn(alloc, 4096, &ONE_CHILD, &CHUNKS),
-        Sample::NineChildren => drawn(alloc, 4096, &NINE_CHILDREN, &[]),
-        Sample::TenChildren => drawn(alloc, 4096, &NINE_CHILDREN, &TENTH_CHILD),
-        Sample::MovedRoot => drawn(alloc, 4096, &MOVED_ROOT, &[]),
-        Sample::ThreeBlocks => drawn(alloc, 12288, &ONE_CHILD, &LONG_LINK),
-        Sample::NodeInside => drawn(alloc, 4096, &ONE_CHILD, &INSIDE),
+        Sample::Fresh => drawn(alloc, 4096, &[&FRESH]),
+        Sample::FreshWide => drawn(alloc, 4096, &[&FRESH_WIDE]),
+        Sample::OneChild => drawn(alloc, 4096, &[&ONE_CHILD]),
+        Sample::OneChildWide => drawn(alloc, 4096, &[&ONE_CHILD_WIDE]),
+        Sample::LongDimension => drawn(alloc, 4096, &[&ONE_CHILD_WIDE, &LONG_DIMENSION]),
+        Sample::TwoChunks => drawn(alloc, 4096, &[&ONE_CHILD, &CHUNKS]),
+        Sample::LinkInChunks => drawn(alloc, 4096, &[&ONE_CHILD, &CHUNKS, &LINK]),
+        Sample::NineChildren => drawn(alloc, 4096, &[&NINE_CHILDREN]),
+        Sample::TenChildren => drawn(alloc, 4096, &[&NINE_CHILDREN, &TENTH_CHILD]),
+        Sample::MovedRoot => drawn(alloc, 4096, &[&MOVED_ROOT]),
+        Sample::ThreeChunks => drawn(alloc, 12288, &[&ONE_CHILD, &LONG_CHUNKS, &LONG_DATA]),
+        Sample::ThreeBlocks => drawn(alloc, 12288, &[&ONE_CHILD, &LONG_LINK]),
+        Sample::NodeInside => drawn(alloc, 4096, &[&ONE_CHILD, &INSIDE]),
         Sample::Chain(nodes) => chain(alloc, nodes),
+        Sample::PackedOneChild => drawn(alloc, 822, &[&PACKED_ONE_CHILD, &NO_DATES]),
+        Sample::PackedWide => drawn(alloc, 1014, &[&PACKED_WIDE, &NO_DATES]),
+        Sample::PackedLink => drawn(alloc, 854, &[&PACKED_LINK, &NO_DATES]),
+        Sample::PackedData => drawn(alloc, 5842, &[&PACKED_DATA, &NO_DATES]),
     }
 }
