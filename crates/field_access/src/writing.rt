@@ -6,14 +6,14 @@ ghost use Rattle.adf_format.specs.Pointer.{pointer_text};
 ghost use Rattle.cg_io.specs.Blocks.{ReadsFew, blocks_of, Both};
 ghost use Rattle.cg_io.specs.Answers.{AnswersWrite, IsRefusal};
 ghost use Rattle.disk_ptr.specs.View.{view, HasOffset};
-ghost use Rattle.field_access.specs.Fields.{ChangesOnly, range};
+ghost use Rattle.field_access.specs.Fields.{ChangesOnly, WaitsWithin, range};
 
 use adf_model::AdfError;
 use cg_io::{Space, write_bytes};
 use disk_ptr::{DiskPtr, encode, write_long_hex};
 
 /// Writes a text at a place.
-#[tactic(auto, using(crate::proofs::WriteLaws::all_written, crate::proofs::WriteLaws::all_changed))]
+#[tactic(auto, using(crate::proofs::WriteLaws::all_written, crate::proofs::WriteLaws::all_changed, crate::proofs::WaitLaws::waits_range))]
 pub fn write_field<S: Space>(space: &mut S, place: u64, text: &[u8]) -> Result<(), AdfError>
     requires sound { S.is_sound space.old }
     requires within { place + length text.now ≤ 2 ^ 44 }
@@ -21,6 +21,8 @@ pub fn write_field<S: Space>(space: &mut S, place: u64, text: &[u8]) -> Result<(
         (S.image space.new)) }
     ensures bytes { Both (ChangesOnly (range place (length text.now) ∷ [])) (S.image space.old)
         (S.image space.new) }
+    ensures only { WaitsWithin (range place (length text.now) ∷ []) (S.waiting space.old)
+        (S.waiting space.new) }
     ensures writes { AnswersWrite S.is_sound S.state S.waiting (blocks_of place (length text.now))
         (ReadsFew (blocks_of place (length text.now))) (IsRefusal ⊥) space.old space.new result }
 {
@@ -36,6 +38,8 @@ pub fn write_pointer<S: Space>(space: &mut S, place: u64, p: DiskPtr) -> Result<
         (S.image space.new)) }
     ensures bytes { Both (ChangesOnly (range place 12 ∷ [])) (S.image space.old)
         (S.image space.new) }
+    ensures only { WaitsWithin (range place 12 ∷ []) (S.waiting space.old)
+        (S.waiting space.new) }
     ensures writes { AnswersWrite S.is_sound S.state S.waiting (blocks_of place 12)
         (ReadsFew (blocks_of place 12)) (IsRefusal ⊥) space.old space.new result }
 {
@@ -57,6 +61,8 @@ pub fn write_number<S: Space, const N: usize>(
         (S.image space.new)) }
     ensures bytes { Both (ChangesOnly (range place N ∷ [])) (S.image space.old)
         (S.image space.new) }
+    ensures only { WaitsWithin (range place N ∷ []) (S.waiting space.old)
+        (S.waiting space.new) }
     ensures writes { AnswersWrite S.is_sound S.state S.waiting (blocks_of place N)
         (ReadsFew (blocks_of place N)) (IsRefusal ⊥) space.old space.new result }
 {
