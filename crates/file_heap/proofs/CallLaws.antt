@@ -19,6 +19,8 @@ use Rattle.adf_format.specs.HeapRule.{cut, is_fit, heap_take, give_joined, pairs
 use Rattle.adf_format.proofs.CountLaws.{none_holds}
 use Rattle.adf_format.proofs.HeapLaws.{in_range, cover-give_joined}
 use Rattle.adf_format.proofs.HeapSteps.{take_tiles, give_tiles, take_keeps_order, give_keeps_order}
+use Rattle.field_access.specs.Fields.{WaitsWithin, WaitsWhereTold}
+use Rattle.field_access.proofs.WaitLaws.{waits_wider, told_waits, told_wider}
 use Rattle.file_heap.specs.Gaps.{IsFirstFit, gap_at}
 use Rattle.file_heap.specs.Heap.{FreeSpace, HeapState, space_of, IsHeap, TakesBy, TakesOfTiles, TakesCover, IsTakenWithin, IsTakeRefusal, GivesToTiles, GivesCover, Grows, ChangesHeap, ChangesOnly, MovesEnd, KeepsThreads, KeepsFillers, IsThreaded}
 use Rattle.file_heap.specs.Slots.{AreFirst, BecomeSlots, ThreadsSlots}
@@ -176,10 +178,10 @@ module _ {S : Type 0} (is_sound : S → Type 0) (image : S → Option (List ℕ)
     (th : IfSome (image old) (ThreadsSlots (gaps_of slots) slots)) where
   -- a take behind the end
   pub grown_leaves : (n last : ℕ) (r : Result ℕ AdfError) → limit ≤ 2 ^ 32 → Grows limit n end r last → OnOk r (Both KeepsThreads (image old) (image new)) → Both (ChangesOnly (end_pointer ∷ [])) (image old) (image new)
-      → OnOk r (Both (MovesEnd end last) (image old) (image new)) → ReadsFew 2 (state old) (state new) → how_many (waiting new) ≤ how_many (waiting old) + 1 → IfErr r (IsTakeRefusal (IsUntold (image old)) (state old).faults (state new).faults)
+      → OnOk r (Both (MovesEnd end last) (image old) (image new)) → ReadsFew 2 (state old) (state new) → how_many (waiting new) ≤ how_many (waiting old) + 1 → WaitsWithin (end_pointer ∷ []) (waiting old) (waiting new) → IfErr r (IsTakeRefusal (IsUntold (image old)) (state old).faults (state new).faults)
       → ChangesHeap is_sound image state waiting [] 9 (IsTakeRefusal (IsUntold (image old))) (state_of slots end kept limit) (state_of slots last kept limit) old new r
   unfolding IsThreaded
-  grown_leaves n last r most grows keeps c moves effect waits cause = record {
+  grown_leaves n last r most grows keeps c moves effect waits only cause = record {
     kept = refl;
     limit = refl;
     refused = refusal r grows;
@@ -188,6 +190,7 @@ module _ {S : Type 0} (is_sound : S → Type 0) (image : S → Option (List ℕ)
     threads = on_ok r (λ k. kept_threads (gaps_of slots) slots (image old) (image new) (gaps_apart (gaps_of slots) (heap_gaps (heap_of (gaps_of slots) end) h)) k th) keeps;
     first = on_ok r (λ k. none_first (gaps_of slots) (image new)) keeps;
     bytes = grown_changes (gaps_of slots) (image old) (image new) c;
+    only = told_waits (image old) (heap_fields ++ gaps_of slots) (waiting old) (waiting new) (waits_wider (end_pointer ∷ []) (heap_fields ++ gaps_of slots) (waiting old) (waiting new) (fields_within (gaps_of slots)) only);
     end = moves;
     fillers = grown_fillers r (heap_of (gaps_of slots) end) (image old) (image new) h c;
     calls = record { sound = sound; waits = omega (arith, waits); effect = reads_more 2 64 (state old) (state new) (omega arith) effect; cause = cause };
@@ -201,10 +204,10 @@ module _ {S : Type 0} (is_sound : S → Type 0) (image : S → Option (List ℕ)
   -- other gaps in place of those that were there
   pub others_leave : {T : Type 0} (r : Result T AdfError) (becomes : List Extent) (after : List Slot) (given : List Extent) (n most : ℕ) (Cause : ℕ → ℕ → AdfError → Type 0) → OnOk r (BecomeSlots becomes slots after (image old) (image new)) → OnErr r (after ≡ slots)
       → IsHeap (heap_of (gaps_of after) end) → pairs (gaps_of after) ≤ pairs (gaps_of slots) → IsWithin (free_table ∷ given ++ gaps_of slots) (heap_fields ++ given ++ gaps_of slots) → MeetsNone HEADER_END.offset HEADER_END.length (free_table ∷ given ++ gaps_of slots)
-      → Both (ChangesOnly (free_table ∷ given ++ gaps_of slots)) (image old) (image new) → n ≤ 64 → ReadsFew n (state old) (state new) → how_many (waiting new) ≤ how_many (waiting old) + most → IfErr r (Cause (state old).faults (state new).faults)
+      → Both (ChangesOnly (free_table ∷ given ++ gaps_of slots)) (image old) (image new) → n ≤ 64 → ReadsFew n (state old) (state new) → how_many (waiting new) ≤ how_many (waiting old) + most → WaitsWhereTold (image old) (free_table ∷ given ++ gaps_of slots) (waiting old) (waiting new) → IfErr r (Cause (state old).faults (state new).faults)
       → ChangesHeap is_sound image state waiting given most Cause (state_of slots end kept limit) (state_of after end kept limit) old new r
   unfolding IsThreaded
-  others_leave r becomes after given n most Cause b stays heap fewer within apart c few effect waits cause = record {
+  others_leave r becomes after given n most Cause b stays heap fewer within apart c few effect waits only cause = record {
     kept = refl;
     limit = refl;
     refused = refusal r stays;
@@ -213,6 +216,7 @@ module _ {S : Type 0} (is_sound : S → Type 0) (image : S → Option (List ℕ)
     threads = on_ok r (λ w. w.threads) b;
     first = on_ok r (λ w. subst (λ gs. IfSome (image new) (AreFirst (gaps_of slots) gs)) (sym w.are) w.first) b;
     bytes = widened (free_table ∷ given ++ gaps_of slots) (heap_fields ++ given ++ gaps_of slots) (image old) (image new) within c;
+    only = told_wider (image old) (free_table ∷ given ++ gaps_of slots) (heap_fields ++ given ++ gaps_of slots) (waiting old) (waiting new) within only;
     end = on_ok r (λ w. end_stays (free_table ∷ given ++ gaps_of slots) (gaps_of slots) slots end (image old) (image new) apart th c) b;
     fillers = on_ok r (λ w. subst (λ gs. Both (KeepsFillers (gaps_of slots) gs) (image old) (image new)) (sym w.are) w.fillers) b;
     calls = record { sound = sound; waits = waits; effect = reads_more n 64 (state old) (state new) few effect; cause = cause };
@@ -260,14 +264,15 @@ module _ (n i limit end : ℕ) (slots after : List Slot) (a b : Option (List ℕ
 pub taken_leaves : {S : Type 0} (is_sound : S → Type 0) (image : S → Option (List ℕ)) (state : S → DeviceState) (waiting : S → List ℕ) (slots after : List Slot) (end : ℕ) (kept : FreeSpace) (limit n i : ℕ) (old new : S) (r : Result ℕ AdfError) → 1 ≤ n
     → IsHeap (heap_of (gaps_of slots) end) → is_sound new → IfSome (image old) (ThreadsSlots (gaps_of slots) slots) → IsFirstFit n (gaps_of slots) i → IfOk r (λ place. place ≡ (gap_at (gaps_of slots) i).place)
     → OnOk r (BecomeSlots (cut n (gaps_of slots)) slots after (image old) (image new)) → OnErr r (after ≡ slots) → Both (ChangesOnly (free_table ∷ filter is_free (gaps_of slots))) (image old) (image new) → ReadsFew 16 (state old) (state new)
-    → how_many (waiting new) ≤ how_many (waiting old) + 9 → IfErr r (IsRefusal (IsUntold (image old)) (state old).faults (state new).faults)
+    → how_many (waiting new) ≤ how_many (waiting old) + 9 → WaitsWhereTold (image old) (free_table ∷ filter is_free (gaps_of slots)) (waiting old) (waiting new) → IfErr r (IsRefusal (IsUntold (image old)) (state old).faults (state new).faults)
     → ChangesHeap is_sound image state waiting [] 9 (IsTakeRefusal (IsUntold (image old))) (state_of slots end kept limit) (state_of after end kept limit) old new r
-taken_leaves is_sound image state waiting slots after end kept limit n i old new r some h sound th fit at w stays c effect waits cause =
+taken_leaves is_sound image state waiting slots after end kept limit n i old new r some h sound th fit at w stays c effect waits only cause =
     others_leave is_sound image state waiting slots end kept limit old new h sound th r (cut n (gaps_of slots)) after [] 16 9 (IsTakeRefusal (IsUntold (image old))) w stays
     (taken_heap n i limit end slots after (image old) (image new) r fit at w stays some h)
     (taken_pairs limit n (heap_of (gaps_of slots) end) (heap_of (gaps_of after) end) r some h (taken_takes n i limit end slots after (image old) (image new) r fit at w stays (state old).faults (state new).faults (IsUntold (image old)) cause))
     (fields_hold [] (gaps_of slots)) (gaps_behind (gaps_of slots) (heap_gaps (heap_of (gaps_of slots) end) h))
     (widened (free_table ∷ filter is_free (gaps_of slots)) (free_table ∷ gaps_of slots) (image old) (image new) (chunks_of_gaps (gaps_of slots)) c) (omega arith) effect waits
+    (told_wider (image old) (free_table ∷ filter is_free (gaps_of slots)) (free_table ∷ gaps_of slots) (waiting old) (waiting new) (chunks_of_gaps (gaps_of slots)) only)
     (take_refused (IsUntold (image old)) (state old).faults (state new).faults r cause)
 
 -- a gift
@@ -280,10 +285,11 @@ module _ (place n end : ℕ) (slots after : List Slot) (a b : Option (List ℕ))
 
 pub given_leaves : {S : Type 0} (is_sound : S → Type 0) (image : S → Option (List ℕ)) (state : S → DeviceState) (waiting : S → List ℕ) (slots after : List Slot) (end : ℕ) (kept : FreeSpace) (limit place n : ℕ) (old new : S) (r : Result (Unit {0}) AdfError) → 1 ≤ n → MeetsNone place n (gaps_of slots)
     → 266 ≤ place → place + n ≤ end + 1 → IsHeap (heap_of (gaps_of slots) end) → is_sound new → IfSome (image old) (ThreadsSlots (gaps_of slots) slots) → OnOk r (BecomeSlots (give_joined place n (gaps_of slots)) slots after (image old) (image new)) → OnErr r (after ≡ slots)
-    → Both (ChangesOnly (free_table ∷ range place n ∷ gaps_of slots)) (image old) (image new) → ReadsFew 22 (state old) (state new) → how_many (waiting new) ≤ how_many (waiting old) + 12 → IfErr r (IsRefusal (IsUntold (image old)) (state old).faults (state new).faults)
+    → Both (ChangesOnly (free_table ∷ range place n ∷ gaps_of slots)) (image old) (image new) → ReadsFew 22 (state old) (state new) → how_many (waiting new) ≤ how_many (waiting old) + 12 → WaitsWhereTold (image old) (free_table ∷ range place n ∷ gaps_of slots) (waiting old) (waiting new)
+    → IfErr r (IsRefusal (IsUntold (image old)) (state old).faults (state new).faults)
     → ChangesHeap is_sound image state waiting (range place n ∷ []) 12 (IsRefusal (IsUntold (image old))) (state_of slots end kept limit) (state_of after end kept limit) old new r
-given_leaves is_sound image state waiting slots after end kept limit place n old new r some none low high h sound th w stays c effect waits cause =
+given_leaves is_sound image state waiting slots after end kept limit place n old new r some none low high h sound th w stays c effect waits only cause =
     others_leave is_sound image state waiting slots end kept limit old new h sound th r (give_joined place n (gaps_of slots)) after (range place n ∷ []) 22 12 (IsRefusal (IsUntold (image old))) w stays
     (gift_heap place n end slots after (image old) (image new) r w stays some none low high h)
     (given_pairs place n (gaps_of slots) (gaps_of after) end r some none (gift_is place n end slots after (image old) (image new) r w stays) (stays_gaps r slots after stays) h)
-    (fields_hold (range place n ∷ []) (gaps_of slots)) (given_behind place n (gaps_of slots) low (heap_gaps (heap_of (gaps_of slots) end) h)) c (omega arith) effect waits cause
+    (fields_hold (range place n ∷ []) (gaps_of slots)) (given_behind place n (gaps_of slots) low (heap_gaps (heap_of (gaps_of slots) end) h)) c (omega arith) effect waits only cause

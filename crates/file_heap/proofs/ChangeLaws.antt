@@ -1,4 +1,4 @@
--- What may change of the bytes in calls one after another.
+-- What may change of the bytes in calls one after another, and which blocks wait after them.
 use Rattle.std.proofs.Common.{append_assoc, ◌≡◌, ℕ, refl, ◌∙◌, ap, arith, List, [], ◌∷◌, ◌++◌, filter, ◌+◌, ◌<◌, ◌≤◌, false}
 use Rattle.std.proofs.lemmas.Bool.Decides.{nat_tests}
 use Rattle.std.specs.Prelude.{Option, Some, None}
@@ -11,6 +11,8 @@ use Rattle.adf_format.specs.LaysOut.{ThreadsFreeChunks, last_place}
 use Rattle.adf_format.proofs.ReachedLaws.{still_changes, more_changes, later_changes}
 use Rattle.adf_format.proofs.HeapLaws.{in_range}
 use Rattle.adf_format.proofs.CountLaws.{none_holds}
+use Rattle.field_access.specs.Fields.{WaitsWithin}
+use Rattle.field_access.proofs.WaitLaws.{within_none, within_cons, waits_then, waits_wider}
 use Rattle.file_heap.specs.Heap.{ChangesOnly}
 use Rattle.file_heap.specs.Links.{AreApart, IsBehind, EndsList, link_at, link_range, list_of, lists_of, range, free_table}
 use Rattle.file_heap.proofs.Ranges.{flat, cover_in, cover_without, same_cover}
@@ -56,17 +58,32 @@ link_within k (Some front) few = behind_within free_table (range (front + 16) 12
 pub link_changed : (k : ℕ) (front : Option ℕ) (old new : Option (List ℕ)) → k < 3 → Both (ChangesOnly (range (link_at k front) 12 ∷ [])) old new → Both (ChangesOnly (free_table ∷ link_range front)) old new
 link_changed k front old new few c = widened (range (link_at k front) 12 ∷ []) (free_table ∷ link_range front) old new (link_within k front few) c
 
+last_within : (k at : ℕ) → k < 3 → at ≡ link_at k None → IsWithin (range (at + 12) 12 ∷ []) (free_table ∷ [])
+last_within k at few e = let here : at ≡ (list_first FREE_TABLE_PLACE k).offset = e in one_within (at + 12) 12 free_table [] (omega (arith, here)) (omega (arith, few, here))
+
 pub last_changed : (k at : ℕ) (old new : Option (List ℕ)) → k < 3 → at ≡ link_at k None → Both (ChangesOnly (range (at + 12) 12 ∷ [])) old new → Both (ChangesOnly (free_table ∷ [])) old new
-last_changed k at old new few e c =
-    let here : at ≡ (list_first FREE_TABLE_PLACE k).offset = e in
-    widened (range (at + 12) 12 ∷ []) (free_table ∷ []) old new (one_within (at + 12) 12 free_table [] (omega (arith, here)) (omega (arith, few, here))) c
+last_changed k at old new few e c = widened (range (at + 12) 12 ∷ []) (free_table ∷ []) old new (last_within k at few e) c
+
+table_within : (xs : List Extent) → IsWithin (free_table ∷ []) (free_table ∷ xs)
+table_within xs = within_cons free_table [] xs (within_none xs)
 
 pub table_then : (xs : List Extent) (a b c : Option (List ℕ)) → Both (ChangesOnly (free_table ∷ xs)) a b → Both (ChangesOnly (free_table ∷ [])) b c → Both (ChangesOnly (free_table ∷ xs)) a c
-table_then xs a b c v w = changes_then (free_table ∷ xs) a b c v (widened (free_table ∷ []) (free_table ∷ xs) b c (λ k none. let out : holds_byte free_table k ≡ false = (none_holds free_table xs k none).0 in rw out) w)
+table_then xs a b c v w = changes_then (free_table ∷ xs) a b c v (widened (free_table ∷ []) (free_table ∷ xs) b c (table_within xs) w)
 
 pub ends_same : (k next : ℕ) (last : Option ℕ) (image : Option (List ℕ)) → Both (EndsList k (Some next) last) image image
 ends_same k next last None = tt
 ends_same k next last (Some bytes) = refl
+
+-- ---- blocks that wait
+
+pub link_waits : (k : ℕ) (front : Option ℕ) (old new : List ℕ) → k < 3 → WaitsWithin (range (link_at k front) 12 ∷ []) old new → WaitsWithin (free_table ∷ link_range front) old new
+link_waits k front old new few w = waits_wider (range (link_at k front) 12 ∷ []) (free_table ∷ link_range front) old new (link_within k front few) w
+
+pub last_waits : (k at : ℕ) (old new : List ℕ) → k < 3 → at ≡ link_at k None → WaitsWithin (range (at + 12) 12 ∷ []) old new → WaitsWithin (free_table ∷ []) old new
+last_waits k at old new few e w = waits_wider (range (at + 12) 12 ∷ []) (free_table ∷ []) old new (last_within k at few e) w
+
+pub table_waits : (xs : List Extent) (a b c : List ℕ) → WaitsWithin (free_table ∷ xs) a b → WaitsWithin (free_table ∷ []) b c → WaitsWithin (free_table ∷ xs) a c
+table_waits xs a b c v w = waits_then (free_table ∷ xs) a b c v (waits_wider (free_table ∷ []) (free_table ∷ xs) b c (table_within xs) w)
 
 -- ---- the pointer behind a chunk is one of a free chunk's bytes
 

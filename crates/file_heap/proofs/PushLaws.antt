@@ -24,6 +24,8 @@ use Rattle.adf_format.proofs.CountLaws.{none_holds}
 use Rattle.adf_format.proofs.HexLaws.{pointer-pointer_text}
 use Rattle.adf_format.proofs.FieldLaws.{get_field, field_beside, field_written, field_left, field_right, field_whole, inner_field, length-field}
 use Rattle.adf_format.proofs.SpelledParts.{says_pointer, length-pointer_text}
+use Rattle.field_access.specs.Fields.{WaitsWithin}
+use Rattle.field_access.proofs.WaitLaws.{waits_then, waits_wider}
 use Rattle.file_heap.specs.Heap.{ChangesOnly}
 use Rattle.file_heap.specs.Links.{PointsNowhere, ThreadsNone, ThreadsThese, Follows, EndsList, Relinks, WritesChunk, WritesGap, Pushes, list_of, lists_of, number_of, class_of, link_at, range, free_table}
 use Rattle.file_heap.proofs.Ranges.{flat, here, cover_set, count_set, same_cover}
@@ -201,8 +203,11 @@ pushed entry read whole linked new place n k at first class here e long near few
 
 -- ---- what may change
 
+part_within : (p n q m : ℕ) → q ≤ p → p + n ≤ q + m → IsWithin (range p n ∷ []) (range q m ∷ [])
+part_within p n q m low high = one_within p n (range q m) [] low high
+
 range_in : (p n q m : ℕ) → q ≤ p → p + n ≤ q + m → (old new : Option (List ℕ)) → Both (ChangesOnly (range p n ∷ [])) old new → Both (ChangesOnly (range q m ∷ [])) old new
-range_in p n q m low high old new c = widened (range p n ∷ []) (range q m ∷ []) old new (one_within p n (range q m) [] low high) c
+range_in p n q m low high old new c = widened (range p n ∷ []) (range q m ∷ []) old new (part_within p n q m low high) c
 
 pub head_changes : (place n : ℕ) (old new : Option (List ℕ)) → 32 ≤ n → Both (ChangesOnly (range place 28 ∷ [])) old new → Both (ChangesOnly (range place n ∷ [])) old new
 head_changes place n old new long c = range_in place 28 place n (omega arith) (omega (arith, long)) old new c
@@ -217,25 +222,52 @@ gap_within place n b none = (none_holds free_table (range place n ∷ []) b none
 pub gap_changes : (place n : ℕ) (entry read new : Option (List ℕ)) → read ≡ entry → Both (ChangesOnly (range place n ∷ [])) read new → Both (ChangesOnly (free_table ∷ range place n ∷ [])) entry new
 gap_changes place n entry read new e c = subst (λ image. Both (ChangesOnly (free_table ∷ range place n ∷ [])) image new) e (widened (range place n ∷ []) (free_table ∷ range place n ∷ []) read new (gap_within place n) c)
 
+fill_length : (n : ℕ) (text : List ℕ) → n < 32 → text ≡ take {A = ℕ} n (replicate 32 122) → length text ≡ n
+fill_length n text short is =
+    let many : length {A = ℕ} (replicate 32 122) ≡ 32 = length-replicate {A = ℕ} 32 122 in
+    let few : length {A = ℕ} (take n (replicate 32 122)) ≡ min n (length {A = ℕ} (replicate 32 122)) = length-take n (replicate 32 122) in
+    ap length is ∙ omega (arith, short, few, many)
+
 -- a filler of so many bytes
 pub fill_changes : (place n : ℕ) (text : List ℕ) (old new : Option (List ℕ)) → n < 32 → text ≡ take {A = ℕ} n (replicate 32 122) → Both (ChangesOnly (range place (length text) ∷ [])) old new
     → Both (ChangesOnly (free_table ∷ range place n ∷ [])) old new
-fill_changes place n text old new short is c = gap_changes place n old old new refl (subst (λ k. Both (ChangesOnly (range place k ∷ [])) old new) long c)
-  where
-    long : length text ≡ n
-    long =
-        let many : length {A = ℕ} (replicate 32 122) ≡ 32 = length-replicate {A = ℕ} 32 122 in
-        let few : length {A = ℕ} (take n (replicate 32 122)) ≡ min n (length {A = ℕ} (replicate 32 122)) = length-take n (replicate 32 122) in
-        ap length is ∙ omega (arith, short, few, many)
+fill_changes place n text old new short is c = gap_changes place n old old new refl (subst (λ k. Both (ChangesOnly (range place k ∷ [])) old new) (fill_length n text short is) c)
+
+first_within : (place n k : ℕ) → k < 3 → IsWithin (range (list_first FREE_TABLE_PLACE k).offset 12 ∷ []) (free_table ∷ range place n ∷ [])
+first_within place n k few = one_within (list_first FREE_TABLE_PLACE k).offset 12 free_table (range place n ∷ []) (omega arith) (omega (arith, few))
 
 pub link_then : (place n k : ℕ) (a b c : Option (List ℕ)) → k < 3 → Both (ChangesOnly (free_table ∷ range place n ∷ [])) a b → Both (ChangesOnly (range (list_first FREE_TABLE_PLACE k).offset 12 ∷ [])) b c → Both (ChangesOnly (free_table ∷ range place n ∷ [])) a c
-link_then place n k a b c few v w = changes_then (free_table ∷ range place n ∷ []) a b c v (widened (range (list_first FREE_TABLE_PLACE k).offset 12 ∷ []) (free_table ∷ range place n ∷ []) b c (one_within (list_first FREE_TABLE_PLACE k).offset 12 free_table (range place n ∷ []) (omega arith) (omega (arith, few))) w)
+link_then place n k a b c few v w = changes_then (free_table ∷ range place n ∷ []) a b c v (widened (range (list_first FREE_TABLE_PLACE k).offset 12 ∷ []) (free_table ∷ range place n ∷ []) b c (first_within place n k few) w)
 
 -- a chunk, and the pointer to it as the first of its list
 pub chunk_changes : (place n k at : ℕ) (entry read whole linked : Option (List ℕ)) → k < 3 → at ≡ (list_first FREE_TABLE_PLACE k).offset → read ≡ entry → Both (ChangesOnly (range place n ∷ [])) read whole
     → Both (ChangesOnly (range at 12 ∷ [])) whole linked → Both (ChangesOnly (free_table ∷ range place n ∷ [])) entry linked
 chunk_changes place n k at entry read whole linked few e same v w =
     link_then place n k entry whole linked few (gap_changes place n entry read whole same v) (subst (λ a. Both (ChangesOnly (range a 12 ∷ [])) whole linked) e w)
+
+-- ---- blocks that wait
+
+pub head_waits : (place n : ℕ) (head old new : List ℕ) → length head ≡ 28 → 32 ≤ n → WaitsWithin (range place (length head) ∷ []) old new → WaitsWithin (range place n ∷ []) old new
+head_waits place n head old new is long w = waits_wider (range place (length head) ∷ []) (range place n ∷ []) old new (part_within place (length head) place n (omega arith) (omega (arith, is, long))) w
+
+pub tail_waits : (place n : ℕ) (head tail old middle new : List ℕ) → length head ≡ 28 → length tail ≡ 4 → 32 ≤ n → WaitsWithin (range place (length head) ∷ []) old middle → WaitsWithin (range (place + n - 4) (length tail) ∷ []) middle new
+    → WaitsWithin (range place n ∷ []) old new
+tail_waits place n head tail old middle new first last long v w =
+    waits_then (range place n ∷ []) old middle new (head_waits place n head old middle first long v)
+    (waits_wider (range (place + n - 4) (length tail) ∷ []) (range place n ∷ []) middle new (part_within (place + n - 4) (length tail) place n (omega (arith, long)) (omega (arith, last, long))) w)
+
+pub gap_waits : (place n : ℕ) (entry read new : List ℕ) → read ≡ entry → WaitsWithin (range place n ∷ []) read new → WaitsWithin (free_table ∷ range place n ∷ []) entry new
+gap_waits place n entry read new e w =
+    subst (λ blocks. WaitsWithin (free_table ∷ range place n ∷ []) blocks new) e (waits_wider (range place n ∷ []) (free_table ∷ range place n ∷ []) read new (gap_within place n) w)
+
+pub fill_waits : (place n : ℕ) (text old new : List ℕ) → n < 32 → text ≡ take {A = ℕ} n (replicate 32 122) → WaitsWithin (range place (length text) ∷ []) old new → WaitsWithin (free_table ∷ range place n ∷ []) old new
+fill_waits place n text old new short is w = gap_waits place n old old new refl (subst (λ k. WaitsWithin (range place k ∷ []) old new) (fill_length n text short is) w)
+
+pub chunk_waits : (place n k at : ℕ) (entry read whole linked : List ℕ) → k < 3 → at ≡ (list_first FREE_TABLE_PLACE k).offset → read ≡ entry → WaitsWithin (range place n ∷ []) read whole → WaitsWithin (range at 12 ∷ []) whole linked
+    → WaitsWithin (free_table ∷ range place n ∷ []) entry linked
+chunk_waits place n k at entry read whole linked few e same v w =
+    waits_then (free_table ∷ range place n ∷ []) entry whole linked (gap_waits place n entry read whole same v)
+    (waits_wider (range (list_first FREE_TABLE_PLACE k).offset 12 ∷ []) (free_table ∷ range place n ∷ []) whole linked (first_within place n k few) (subst (λ a. WaitsWithin (range a 12 ∷ []) whole linked) e w))
 
 -- ---- a filler
 

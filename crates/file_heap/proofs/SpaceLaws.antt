@@ -20,6 +20,8 @@ use Rattle.adf_format.proofs.HexLaws.{pointer-pointer_text}
 use Rattle.adf_format.proofs.CountLaws.{none_holds}
 use Rattle.adf_format.proofs.FrameLaws.{field_kept}
 use Rattle.adf_format.proofs.SpelledParts.{length-pointer_text}
+use Rattle.field_access.specs.Fields.{WaitsWithin, WaitsWhereTold}
+use Rattle.field_access.proofs.WaitLaws.{within_none, within_cons, waits_wider, told_waits, told_wider, told_next}
 use Rattle.file_heap.specs.Gaps.{IsFirstFit, gap_at, put_by_place}
 use Rattle.file_heap.specs.Heap.{ChangesOnly, KeepsFillers, KeepsThreads, MovesEnd}
 use Rattle.file_heap.specs.Links.{AreApart, AreGaps, IsBehind, ThreadsThese, WritesGap, lists_of, number_of, range, free_table}
@@ -163,6 +165,13 @@ cut_changes gaps i n gap a b c is g fit v w =
     changes_then (free_table ∷ filter is_free gaps) a b c v
     (widened (free_table ∷ range ((gap_at gaps i).place + n) ((gap_at gaps i).length - n) ∷ []) (free_table ∷ filter is_free gaps) b c (rest_within gaps i n g fit) (subst (λ (x : Extent). Both (ChangesOnly (free_table ∷ range (x.place + n) (x.length - n) ∷ [])) b c) is w))
 
+pub cut_waits : (held : Option (List ℕ)) (gaps : List Extent) (i n : ℕ) (gap : Extent) (u v w : List ℕ) → gap ≡ gap_at gaps i → AreGaps gaps → IsFirstFit n gaps i → WaitsWhereTold held (free_table ∷ filter is_free gaps) u v
+    → WaitsWithin (free_table ∷ range (gap.place + n) (gap.length - n) ∷ []) v w → WaitsWhereTold held (free_table ∷ filter is_free gaps) u w
+cut_waits held gaps i n gap u v w is g fit first then =
+    told_next held (free_table ∷ filter is_free gaps) u v w first
+    (told_waits held (free_table ∷ filter is_free gaps) v w
+    (waits_wider (free_table ∷ range ((gap_at gaps i).place + n) ((gap_at gaps i).length - n) ∷ []) (free_table ∷ filter is_free gaps) v w (rest_within gaps i n g fit) (subst (λ (x : Extent). WaitsWithin (free_table ∷ range (x.place + n) (x.length - n) ∷ []) v w) is then)))
+
 -- ---- fillers
 
 filler_apart : (gaps : List Extent) (b : ℕ) → AreGaps gaps → 0 < cover (filter is_filler gaps) b → cover (free_table ∷ filter is_free gaps) b ≡ 0
@@ -280,10 +289,15 @@ lists_within place n gaps b none =
     let z : cover gaps b ≡ 0 = (none_holds (range place n) gaps b one.1).1 in
     let k = cover_kinds b gaps in rw table (omega (arith, z, k))
 
+alone_within : (place n : ℕ) (gaps : List Extent) → IsWithin (free_table ∷ range place n ∷ []) (free_table ∷ range place n ∷ gaps)
+alone_within place n gaps = within_cons free_table (range place n ∷ []) (range place n ∷ gaps) (within_cons (range place n) [] gaps (within_none gaps))
+
 pub alone_changes : (place n : ℕ) (gaps : List Extent) (a c : Option (List ℕ)) → Both (ChangesOnly (free_table ∷ range place n ∷ [])) a c → Both (ChangesOnly (free_table ∷ range place n ∷ gaps)) a c
 alone_changes place n gaps a c w =
-    widened (free_table ∷ range place n ∷ []) (free_table ∷ range place n ∷ gaps) a c
-    (λ b none. let one = none_holds free_table (range place n ∷ gaps) b none in let table : holds_byte free_table b ≡ false = one.0 in let off : holds_byte (range place n) b ≡ false = (none_holds (range place n) gaps b one.1).0 in rw (table, off)) w
+    widened (free_table ∷ range place n ∷ []) (free_table ∷ range place n ∷ gaps) a c (alone_within place n gaps) w
+
+pub alone_waits : (held : Option (List ℕ)) (place n : ℕ) (gaps : List Extent) (u w : List ℕ) → WaitsWithin (free_table ∷ range place n ∷ []) u w → WaitsWhereTold held (free_table ∷ range place n ∷ gaps) u w
+alone_waits held place n gaps u w h = told_waits held (free_table ∷ range place n ∷ gaps) u w (waits_wider (free_table ∷ range place n ∷ []) (free_table ∷ range place n ∷ gaps) u w (alone_within place n gaps) h)
 
 pub left_changes : (place n : ℕ) (gaps : List Extent) (a b : Option (List ℕ)) → Both (ChangesOnly (free_table ∷ filter is_free gaps)) a b → Both (ChangesOnly (free_table ∷ range place n ∷ gaps)) a b
 left_changes place n gaps a b v = widened (free_table ∷ filter is_free gaps) (free_table ∷ range place n ∷ gaps) a b (lists_within place n gaps) v
@@ -292,6 +306,15 @@ pub joined_changes : (place n q m i : ℕ) (gaps : List Extent) (a b c : Option 
     → Both (ChangesOnly (free_table ∷ range q m ∷ remove gaps i)) b c → Both (ChangesOnly (free_table ∷ range place n ∷ gaps)) a c
 joined_changes place n q m i gaps a b c lt sum v w =
     changes_then (free_table ∷ range place n ∷ gaps) a b c (left_changes place n gaps a b v) (widened (free_table ∷ range q m ∷ remove gaps i) (free_table ∷ range place n ∷ gaps) b c (joined_within place n q m i gaps lt sum) w)
+
+pub left_waits : (held : Option (List ℕ)) (place n : ℕ) (gaps : List Extent) (u v : List ℕ) → WaitsWhereTold held (free_table ∷ filter is_free gaps) u v → WaitsWhereTold held (free_table ∷ range place n ∷ gaps) u v
+left_waits held place n gaps u v h = told_wider held (free_table ∷ filter is_free gaps) (free_table ∷ range place n ∷ gaps) u v (lists_within place n gaps) h
+
+pub joined_waits : (held : Option (List ℕ)) (place n q m i : ℕ) (gaps : List Extent) (u v w : List ℕ) → i < length gaps → IsJoined place n (gap_at gaps i) q m → WaitsWhereTold held (free_table ∷ filter is_free gaps) u v
+    → WaitsWhereTold held (free_table ∷ range q m ∷ remove gaps i) v w → WaitsWhereTold held (free_table ∷ range place n ∷ gaps) u w
+joined_waits held place n q m i gaps u v w lt sum first then =
+    told_next held (free_table ∷ range place n ∷ gaps) u v w (left_waits held place n gaps u v first)
+    (told_wider held (free_table ∷ range q m ∷ remove gaps i) (free_table ∷ range place n ∷ gaps) v w (joined_within place n q m i gaps lt sum) then)
 
 -- the fillers of the gaps that are left
 pub rest_fillers : (gaps : List Extent) (i : ℕ) (a b : Option (List ℕ)) → AreGaps gaps → Both (ChangesOnly (free_table ∷ filter is_free gaps)) a b → Both (KeepsFillers gaps (remove gaps i)) a b

@@ -12,13 +12,15 @@ use Rattle.gap_tree.specs.declared.slot.Class.TheVariants.{Small, Medium, Large}
 use Rattle.gap_tree.specs.declared.slot.Slot.{Slot}
 use Rattle.gap_tree.specs.declared.slot.Spot.{Spot}
 use Rattle.gap_tree.specs.Slots.{gaps_of}
+use Rattle.field_access.specs.Fields.{WaitsWithin, WaitsWhereTold}
+use Rattle.field_access.proofs.WaitLaws.{waits_wider}
 use Rattle.file_heap.specs.Gaps.{NoneBegins, gap_at}
 use Rattle.file_heap.specs.Heap.{ChangesOnly}
 use Rattle.file_heap.specs.Links.{AreGaps, Points, Follows, HasHead, IsBehind, PointsNowhere, Relinks, ThreadsThese, list_of, lists_of, number_of, free_table, link_range}
 use Rattle.file_heap.specs.Slots.{BeginsSome, HasSlot, HasSpot, LeavesList, MovesTo, StandsOn, ThreadsSlots}
 use Rattle.file_heap.proofs.Ranges.{count_in, count_without, here, test_holds}
 use Rattle.file_heap.proofs.ListLaws.{EndsWith, ends_with, chunk_stands, list_is, link_says, last_added, same_ranges, some_same}
-use Rattle.file_heap.proofs.ChangeLaws.{widened, spot_within}
+use Rattle.file_heap.proofs.ChangeLaws.{IsWithin, widened, spot_within}
 use Rattle.file_heap.proofs.HeapFacts.{gaps_apart, free_long}
 use Rattle.file_heap.proofs.SlotLaws.{gap_got, gaps_length, moved_gaps, gaps-removed, got_removed, got_set, has_bytes, ordered}
 use Rattle.file_heap.proofs.UnlinkLaws.{read_behind, unlinked}
@@ -259,12 +261,19 @@ module _ (slots : List Slot) (i : ℕ) (spot : Spot) (g : AreGaps (gaps_of slots
           let s = chunk_stands bytes (gaps_of slots) th.threads (gaps_apart (gaps_of slots) g) (number_of spot.list) w.before w.chunk (b.chunk ∷ b.after) (number_few spot.list) whole in
           let le : w.chunk.place + w.chunk.length ≤ 2 ^ 44 = s.1 in let long : 32 ≤ w.chunk.length = s.2 in let at : w.chunk.place ≡ f = w.here in omega (arith, le, long, at)
 
+  front_within : (bytes : List ℕ) → ThreadsSlots (gaps_of slots) slots bytes → IsWithin (free_table ∷ link_range spot.front) (free_table ∷ filter is_free (gaps_of slots))
+  front_within bytes th =
+      spot_within bytes (gaps_of slots) th.threads (gap_at (gaps_of slots) i).place (number_of spot.list) spot.front (gaps_apart (gaps_of slots) g) (number_few spot.list) (stands_behind bytes th)
+
   pub link_in_chunks : (entry read new : Option (List ℕ)) → read ≡ entry → IfSome entry (ThreadsSlots (gaps_of slots) slots) → Both (ChangesOnly (free_table ∷ link_range spot.front)) read new → Both (ChangesOnly (free_table ∷ filter is_free (gaps_of slots))) entry new
   link_in_chunks entry read new e th c = go entry new th (subst (λ image. Both (ChangesOnly (free_table ∷ link_range spot.front)) image new) e c)
     where
       go : (entry new : Option (List ℕ)) → IfSome entry (ThreadsSlots (gaps_of slots) slots) → Both (ChangesOnly (free_table ∷ link_range spot.front)) entry new → Both (ChangesOnly (free_table ∷ filter is_free (gaps_of slots))) entry new
       go None None th c = tt
       go None (Some b) th c = c
-      go (Some a) new th c =
-          widened (free_table ∷ link_range spot.front) (free_table ∷ filter is_free (gaps_of slots)) (Some a) new
-          (spot_within a (gaps_of slots) th.threads (gap_at (gaps_of slots) i).place (number_of spot.list) spot.front (gaps_apart (gaps_of slots) g) (number_few spot.list) (stands_behind a th)) c
+      go (Some a) new th c = widened (free_table ∷ link_range spot.front) (free_table ∷ filter is_free (gaps_of slots)) (Some a) new (front_within a th) c
+
+  pub front_waits : (entry : Option (List ℕ)) (was read new : List ℕ) → read ≡ was → IfSome entry (ThreadsSlots (gaps_of slots) slots) → WaitsWithin (free_table ∷ link_range spot.front) read new → WaitsWhereTold entry (free_table ∷ filter is_free (gaps_of slots)) was new
+  front_waits None was read new e th w = tt
+  front_waits (Some a) was read new e th w =
+      waits_wider (free_table ∷ link_range spot.front) (free_table ∷ filter is_free (gaps_of slots)) was new (front_within a th) (subst (λ blocks. WaitsWithin (free_table ∷ link_range spot.front) blocks new) e w)

@@ -11,6 +11,7 @@ use Rattle.adf_format.specs.Placement.{Heap, extent}
 use Rattle.adf_format.specs.LaysOut.{AreGapsInOrder}
 use Rattle.adf_format.specs.Changes.{heap_fields}
 use Rattle.adf_format.specs.HeapRule.{heap_take, pairs}
+use Rattle.field_access.specs.Fields.{WaitsWhereTold}
 use Rattle.gap_tree.specs.declared.slot.Slot.{Slot}
 use Rattle.gap_tree.specs.Slots.{gaps_of}
 use Rattle.file_heap.specs.Links.{AreApart, range}
@@ -86,7 +87,7 @@ abbrev pub KeepsThreads : List ℕ → List ℕ → Type 0
 KeepsThreads old new = (gaps : List Extent) (slots : List Slot) → AreApart gaps → ThreadsSlots gaps slots old → ThreadsSlots gaps slots new
 
 -- What calls of the heap change that take a range from the gaps or give one to them: a refusal leaves the free space, and its bytes
--- change only in the end pointer, in the free table, in the gaps and in what is given.
+-- change only in the end pointer, in the free table, in the gaps and in what is given. Where the bytes are told, only blocks of these wait anew.
 pub record ChangesHeap {S T : Type 0} (is_sound : S → Type 0) (image : S → Option (List ℕ)) (state : S → DeviceState) (waiting : S → List ℕ) (given : List Extent) (most : ℕ)
     (Cause : ℕ → ℕ → AdfError → Type 0) (before after : HeapState) (old new : S) (result : Result T AdfError) : Type 0 where
   pub kept : after.kept ≡ before.kept
@@ -97,6 +98,7 @@ pub record ChangesHeap {S T : Type 0} (is_sound : S → Type 0) (image : S → O
   pub threads : OnOk result (IfSome (image new) (IsThreaded after.work))
   pub first : OnOk result (IfSome (image new) (AreFirst before.work.heap.gaps after.work.heap.gaps))
   pub bytes : Both (ChangesOnly (heap_fields ++ given ++ before.work.heap.gaps)) (image old) (image new)
+  pub only : WaitsWhereTold (image old) (heap_fields ++ given ++ before.work.heap.gaps) (waiting old) (waiting new)
   pub end : OnOk result (Both (MovesEnd before.work.heap.end after.work.heap.end) (image old) (image new))
   pub fillers : OnOk result (Both (KeepsFillers before.work.heap.gaps after.work.heap.gaps) (image old) (image new))
   pub calls : AnswersWrite is_sound state waiting most (ReadsFew 64) Cause old new result

@@ -6,6 +6,7 @@ ghost use Rattle.cg_io.specs.Waits.{how_many};
 ghost use Rattle.adf_format.specs.Tiles.{is_free, MeetsNone};
 ghost use Rattle.adf_format.specs.HeapRule.{new_gap, give_joined};
 ghost use Rattle.gap_tree.specs.Slots.{gaps_of};
+ghost use Rattle.field_access.specs.Fields.{WaitsWithin, WaitsWhereTold};
 ghost use Rattle.file_heap.specs.Gaps.{put_by_place, give_right};
 ghost use Rattle.file_heap.specs.Links.{AreGaps, range, free_table};
 ghost use Rattle.file_heap.specs.Slots.{BecomeSlots, ThreadsSlots};
@@ -22,7 +23,7 @@ use std::alloc::Global;
 use std::rc::Rc;
 
 /// Takes a gap out of the gaps, and out of the list that has it.
-#[tactic(auto, using(crate::proofs::SlotSteps::has_spot, crate::proofs::SlotSteps::filler_gaps, crate::proofs::SlotSteps::chunk_gaps, crate::proofs::SlotSteps::filler_leaves, crate::proofs::SlotSteps::chunk_leaves, crate::proofs::SlotSteps::spot_is_there, crate::proofs::ChangeLaws::changes_none))]
+#[tactic(auto, using(crate::proofs::SlotSteps::has_spot, crate::proofs::SlotSteps::filler_gaps, crate::proofs::SlotSteps::chunk_gaps, crate::proofs::SlotSteps::filler_leaves, crate::proofs::SlotSteps::chunk_leaves, crate::proofs::SlotSteps::spot_is_there, crate::proofs::ChangeLaws::changes_none, field_access::proofs::WaitLaws::told_same))]
 pub(crate) fn absorb<S: Space>(
     space: &mut S,
     alloc: Global,
@@ -40,6 +41,9 @@ pub(crate) fn absorb<S: Space>(
         (ThreadsSlots (gaps_of rest.value) rest.value)) }
     ensures bytes { Both (ChangesOnly (free_table ∷ filter is_free (gaps_of slots.now.value)))
         (S.image space.old) (S.image space.new) }
+    ensures only { WaitsWhereTold (S.image space.old)
+        (free_table ∷ filter is_free (gaps_of slots.now.value))
+        (S.waiting space.old) (S.waiting space.new) }
     ensures effect { ReadsFew 6 (S.state space.old) (S.state space.new) }
     ensures waiting { how_many (S.waiting space.new) ≤ how_many (S.waiting space.old) + 3 }
     ensures cause { IfErr result (IsRefusal (IsUntold (S.image space.old))
@@ -80,6 +84,8 @@ pub(crate) fn give_alone<S: Space>(
         (S.image space.old) (S.image space.new)) }
     ensures bytes { Both (ChangesOnly (free_table ∷ range place n ∷ []))
         (S.image space.old) (S.image space.new) }
+    ensures only { WaitsWithin (free_table ∷ range place n ∷ []) (S.waiting space.old)
+        (S.waiting space.new) }
     ensures effect { ReadsFew 10 (S.state space.old) (S.state space.new) }
     ensures waiting { how_many (S.waiting space.new) ≤ how_many (S.waiting space.old) + 6 }
     ensures cause { IfErr result (IsRefusal (IsUntold (S.image space.old))
@@ -100,7 +106,7 @@ pub(crate) fn give_alone<S: Space>(
 }
 
 // Joins a range, which no gap ends just before, with the gap that begins just behind it.
-#[tactic(auto, using(crate::proofs::SpaceLaws::alone_changes))]
+#[tactic(auto, using(crate::proofs::SpaceLaws::alone_changes, crate::proofs::SpaceLaws::alone_waits))]
 fn give_right<S: Space>(
     space: &mut S,
     alloc: Global,
@@ -122,6 +128,9 @@ fn give_right<S: Space>(
         (S.image space.old) (S.image space.new)) }
     ensures bytes { Both (ChangesOnly (free_table ∷ range place n ∷ gaps_of slots.now.value))
         (S.image space.old) (S.image space.new) }
+    ensures only { WaitsWhereTold (S.image space.old)
+        (free_table ∷ range place n ∷ gaps_of slots.now.value)
+        (S.waiting space.old) (S.waiting space.new) }
     ensures effect { ReadsFew 16 (S.state space.old) (S.state space.new) }
     ensures waiting { how_many (S.waiting space.new) ≤ how_many (S.waiting space.old) + 9 }
     ensures cause { IfErr result (IsRefusal (IsUntold (S.image space.old))
@@ -158,6 +167,9 @@ pub(crate) fn give_range<S: Space>(
         (S.image space.old) (S.image space.new)) }
     ensures bytes { Both (ChangesOnly (free_table ∷ range place n ∷ gaps_of slots.now.value))
         (S.image space.old) (S.image space.new) }
+    ensures only { WaitsWhereTold (S.image space.old)
+        (free_table ∷ range place n ∷ gaps_of slots.now.value)
+        (S.waiting space.old) (S.waiting space.new) }
     ensures effect { ReadsFew 22 (S.state space.old) (S.state space.new) }
     ensures waiting { how_many (S.waiting space.new) ≤ how_many (S.waiting space.old) + 12 }
     ensures cause { IfErr result (IsRefusal (IsUntold (S.image space.old))

@@ -8,6 +8,7 @@ ghost use Rattle.adf_format.specs.LaysOut.{ThreadsFreeChunks};
 ghost use Rattle.adf_format.specs.HeapRule.{cut, give_joined, heap_give};
 ghost use Rattle.adf_model.specs.declared.error.AdfError.{AdfError};
 ghost use Rattle.gap_tree.specs.Slots.{gaps_of};
+ghost use Rattle.field_access.specs.Fields.{WaitsWhereTold};
 ghost use Rattle.file_heap.specs.Gaps.{IsFirstFit, gap_at};
 ghost use Rattle.file_heap.specs.Links.{AreGaps, range, free_table};
 ghost use Rattle.file_heap.specs.Slots.{slots_in, BecomeSlots, ThreadsSlots};
@@ -230,6 +231,9 @@ fn take_front<S: Space>(
     ensures bytes { Both (ChangesOnly (free_table
         ∷ filter is_free (gaps_of (slots_in work.old kept.now.value))))
         (S.image space.old) (S.image space.new) }
+    ensures only { WaitsWhereTold (S.image space.old)
+        (free_table ∷ filter is_free (gaps_of (slots_in work.old kept.now.value)))
+        (S.waiting space.old) (S.waiting space.new) }
     ensures effect { ReadsFew 16 (S.state space.old) (S.state space.new) }
     ensures waiting { how_many (S.waiting space.new) ≤ how_many (S.waiting space.old) + 9 }
     ensures cause { IfErr result (IsRefusal (IsUntold (S.image space.old))
@@ -268,6 +272,9 @@ fn give_back<S: Space>(
         ≡ slots_in work.old kept.now.value) }
     ensures bytes { Both (ChangesOnly (free_table ∷ range place n
         ∷ gaps_of (slots_in work.old kept.now.value))) (S.image space.old) (S.image space.new) }
+    ensures only { WaitsWhereTold (S.image space.old)
+        (free_table ∷ range place n ∷ gaps_of (slots_in work.old kept.now.value))
+        (S.waiting space.old) (S.waiting space.new) }
     ensures effect { ReadsFew 22 (S.state space.old) (S.state space.new) }
     ensures waiting { how_many (S.waiting space.new) ≤ how_many (S.waiting space.old) + 12 }
     ensures cause { IfErr result (IsRefusal (IsUntold (S.image space.old))

@@ -7,6 +7,7 @@ ghost use Rattle.disk_ptr.specs.View.{view, HasOffset};
 ghost use Rattle.adf_format.specs.Pointer.{pointer_text};
 ghost use Rattle.adf_format.specs.Spelled.{pointer_to, IsInReach};
 ghost use Rattle.adf_format.specs.Changes.{Writes};
+ghost use Rattle.field_access.specs.Fields.{WaitsWithin};
 ghost use Rattle.file_heap.specs.Links.{link_at, Follows, PointsNowhere, HasHead, range, number_of};
 ghost use Rattle.adf_format.specs.RuleNumbers.{IsRule};
 ghost use Rattle.file_heap.specs.Heap.{ChangesOnly};
@@ -79,6 +80,8 @@ pub(crate) fn write_link<S: Space>(
     ensures written { OnOk result (Both (Writes at (pointer_text (pointer_to next)))
         (S.image space.old) (S.image space.new)) }
     ensures bytes { Both (ChangesOnly (range at 12 ∷ [])) (S.image space.old) (S.image space.new) }
+    ensures only { WaitsWithin (range at 12 ∷ []) (S.waiting space.old)
+        (S.waiting space.new) }
     ensures effect { ReadsFew 2 (S.state space.old) (S.state space.new) }
     ensures waiting { how_many (S.waiting space.new) ≤ how_many (S.waiting space.old) + 2 }
     ensures near { at + 12 ≤ 4096 → how_many (S.waiting space.new)

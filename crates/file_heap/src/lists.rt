@@ -6,6 +6,7 @@ ghost use Rattle.cg_io.specs.Waits.{how_many};
 ghost use Rattle.adf_format.specs.Spelled.{IsInReach};
 ghost use Rattle.adf_format.specs.Tiles.{is_free};
 ghost use Rattle.gap_tree.specs.Slots.{gaps_of};
+ghost use Rattle.field_access.specs.Fields.{WaitsWithin, WaitsWhereTold};
 ghost use Rattle.file_heap.specs.Gaps.{gap_at};
 ghost use Rattle.file_heap.specs.Links.{link_at, number_of, class_of, HasHead, AreGaps, ThreadsNone, Follows, EndsList, Relinks, Pushes, WritesChunk, WritesGap, range, free_table, link_range};
 ghost use Rattle.file_heap.specs.Slots.{ThreadsSlots, BeginsSome, LeavesList, HasSpot};
@@ -23,7 +24,7 @@ use gap_tree::{Class, Spot, Tree};
 pub(crate) const LAST_HEAD: u64 = (1 << 44) - 32;
 
 // The last pointer of a list is written over, where nothing is behind its new last chunk.
-#[tactic(auto, using(crate::proofs::ChangeLaws::changes_none, crate::proofs::ChangeLaws::ends_same))]
+#[tactic(auto, using(crate::proofs::ChangeLaws::changes_none, crate::proofs::ChangeLaws::ends_same, field_access::proofs::WaitLaws::waits_none))]
 fn end_list<S: Space>(
     space: &mut S,
     list: Class,
@@ -36,6 +37,8 @@ fn end_list<S: Space>(
     ensures ended { OnOk result (Both (EndsList (number_of list) behind last)
         (S.image space.old) (S.image space.new)) }
     ensures bytes { Both (ChangesOnly (free_table ∷ [])) (S.image space.old) (S.image space.new) }
+    ensures only { WaitsWithin (free_table ∷ []) (S.waiting space.old)
+        (S.waiting space.new) }
     ensures effect { ReadsFew 2 (S.state space.old) (S.state space.new) }
     ensures waiting { how_many (S.waiting space.new) ≤ how_many (S.waiting space.old) + 1 }
     ensures cause { IfErr result (IsRefusal ⊥ (S.state space.old).faults
@@ -48,7 +51,7 @@ fn end_list<S: Space>(
 }
 
 // The pointer at a spot is written over.
-#[tactic(auto, using(crate::proofs::ChangeLaws::link_changed, crate::proofs::ChangeLaws::table_then, crate::proofs::PushLaws::relinked))]
+#[tactic(auto, using(crate::proofs::ChangeLaws::link_changed, crate::proofs::ChangeLaws::table_then, crate::proofs::ChangeLaws::link_waits, crate::proofs::ChangeLaws::table_waits, crate::proofs::PushLaws::relinked))]
 fn relink<S: Space>(space: &mut S, spot: Spot, next: Option<u64>) -> Result<(), AdfError>
     requires sound { S.is_sound space.old }
     requires head { HasHead spot.front }
@@ -58,6 +61,8 @@ fn relink<S: Space>(space: &mut S, spot: Spot, next: Option<u64>) -> Result<(), 
         (S.image space.old) (S.image space.new)) }
     ensures bytes { Both (ChangesOnly (free_table ∷ link_range spot.front))
         (S.image space.old) (S.image space.new) }
+    ensures only { WaitsWithin (free_table ∷ link_range spot.front) (S.waiting space.old)
+        (S.waiting space.new) }
     ensures effect { ReadsFew 4 (S.state space.old) (S.state space.new) }
     ensures waiting { how_many (S.waiting space.new) ≤ how_many (S.waiting space.old) + 3 }
     ensures cause { IfErr result (IsRefusal ⊥ (S.state space.old).faults
@@ -107,7 +112,7 @@ fn next_behind<S: Space>(
 }
 
 /// Takes a free chunk out of the list where it has its spot: the chunk that was behind it there.
-#[tactic(auto, using(crate::proofs::SpotLaws::leaves_list, crate::proofs::SpotLaws::front_is_near, crate::proofs::SpotLaws::link_in_chunks))]
+#[tactic(auto, using(crate::proofs::SpotLaws::leaves_list, crate::proofs::SpotLaws::front_is_near, crate::proofs::SpotLaws::link_in_chunks, crate::proofs::SpotLaws::front_waits, field_access::proofs::WaitLaws::told_same))]
 pub(crate) fn unlink<S: Space>(
     space: &mut S,
     slots: &Tree,
@@ -127,6 +132,9 @@ pub(crate) fn unlink<S: Space>(
         (λ bytes. BeginsSome (gaps_of slots.now) next)) }
     ensures bytes { Both (ChangesOnly (free_table ∷ filter is_free (gaps_of slots.now)))
         (S.image space.old) (S.image space.new) }
+    ensures only { WaitsWhereTold (S.image space.old)
+        (free_table ∷ filter is_free (gaps_of slots.now))
+        (S.waiting space.old) (S.waiting space.new) }
     ensures effect { ReadsFew 6 (S.state space.old) (S.state space.new) }
     ensures waiting { how_many (S.waiting space.new) ≤ how_many (S.waiting space.old) + 3 }
     ensures cause { IfErr result (IsRefusal (IsUntold (S.image space.old))
@@ -170,6 +178,8 @@ fn write_chunk<S: Space>(
         (S.image space.old) (S.image space.new)) }
     ensures bytes { Both (ChangesOnly (range place length ∷ []))
         (S.image space.old) (S.image space.new) }
+    ensures only { WaitsWithin (range place length ∷ []) (S.waiting space.old)
+        (S.waiting space.new) }
     ensures effect { ReadsFew 4 (S.state space.old) (S.state space.new) }
     ensures waiting { how_many (S.waiting space.new) ≤ how_many (S.waiting space.old) + 4 }
     ensures cause { IfErr result (IsRefusal ⊥ (S.state space.old).faults
@@ -200,7 +210,7 @@ fn first_in<S: Space>(space: &mut S, list: Class) -> Result<Option<u64>, AdfErro
 }
 
 // Writes a free chunk in front of the first of its class, which it answers.
-#[tactic(auto, using(crate::proofs::PushLaws::gap_changes))]
+#[tactic(auto, using(crate::proofs::PushLaws::gap_changes, crate::proofs::PushLaws::gap_waits, field_access::proofs::WaitLaws::waits_same))]
 fn push<S: Space>(space: &mut S, place: u64, length: u64) -> Result<Option<u64>, AdfError>
     requires sound { S.is_sound space.old }
     requires long { 32 ≤ length }
@@ -210,6 +220,8 @@ fn push<S: Space>(space: &mut S, place: u64, length: u64) -> Result<Option<u64>,
         (S.image space.old) (S.image space.new)) }
     ensures bytes { Both (ChangesOnly (free_table ∷ range place length ∷ []))
         (S.image space.old) (S.image space.new) }
+    ensures only { WaitsWithin (free_table ∷ range place length ∷ []) (S.waiting space.old)
+        (S.waiting space.new) }
     ensures effect { ReadsFew 10 (S.state space.old) (S.state space.new) }
     ensures waiting { how_many (S.waiting space.new) ≤ how_many (S.waiting space.old) + 6 }
     ensures cause { IfErr result (IsRefusal (ThreadsNone (S.image space.old))
@@ -235,6 +247,8 @@ fn fill<S: Space>(space: &mut S, place: u64, length: u64) -> Result<(), AdfError
         (S.image space.old) (S.image space.new)) }
     ensures bytes { Both (ChangesOnly (free_table ∷ range place length ∷ []))
         (S.image space.old) (S.image space.new) }
+    ensures only { WaitsWithin (free_table ∷ range place length ∷ []) (S.waiting space.old)
+        (S.waiting space.new) }
     ensures effect { ReadsFew 2 (S.state space.old) (S.state space.new) }
     ensures waiting { how_many (S.waiting space.new) ≤ how_many (S.waiting space.old) + 2 }
     ensures cause { IfErr result (IsRefusal ⊥ (S.state space.old).faults
@@ -258,6 +272,8 @@ pub(crate) fn write_gap<S: Space>(
         (S.image space.old) (S.image space.new)) }
     ensures bytes { Both (ChangesOnly (free_table ∷ range place length ∷ []))
         (S.image space.old) (S.image space.new) }
+    ensures only { WaitsWithin (free_table ∷ range place length ∷ []) (S.waiting space.old)
+        (S.waiting space.new) }
     ensures effect { ReadsFew 10 (S.state space.old) (S.state space.new) }
     ensures waiting { how_many (S.waiting space.new) ≤ how_many (S.waiting space.old) + 6 }
     ensures cause { IfErr result (IsRefusal (ThreadsNone (S.image space.old))

@@ -6,6 +6,7 @@ ghost use Rattle.cg_io.specs.Waits.{how_many};
 ghost use Rattle.adf_format.specs.Tiles.{is_free};
 ghost use Rattle.adf_format.specs.HeapRule.{cut};
 ghost use Rattle.gap_tree.specs.Slots.{gaps_of};
+ghost use Rattle.field_access.specs.Fields.{WaitsWithin, WaitsWhereTold};
 ghost use Rattle.file_heap.specs.Gaps.{IsFirstFit};
 ghost use Rattle.file_heap.specs.Links.{AreGaps, free_table, end_pointer};
 ghost use Rattle.file_heap.specs.Slots.{BecomeSlots, ThreadsSlots};
@@ -22,7 +23,7 @@ use std::alloc::Global;
 use std::rc::Rc;
 
 /// Takes n bytes behind the end.
-#[tactic(auto, using(crate::proofs::SpaceLaws::grown_threads, crate::proofs::SpaceLaws::grown_end))]
+#[tactic(auto, using(crate::proofs::SpaceLaws::grown_threads, crate::proofs::SpaceLaws::grown_end, field_access::proofs::WaitLaws::waits_none))]
 pub(crate) fn grow<S: Space>(
     space: &mut S,
     end: &mut u64,
@@ -37,6 +38,8 @@ pub(crate) fn grow<S: Space>(
     ensures grows { Grows limit n end.old result end.new }
     ensures threads { OnOk result (Both KeepsThreads (S.image space.old) (S.image space.new)) }
     ensures bytes { Both (ChangesOnly (end_pointer ∷ [])) (S.image space.old) (S.image space.new) }
+    ensures only { WaitsWithin (end_pointer ∷ []) (S.waiting space.old)
+        (S.waiting space.new) }
     ensures end { OnOk result (Both (MovesEnd end.old end.new)
         (S.image space.old) (S.image space.new)) }
     ensures effect { ReadsFew 2 (S.state space.old) (S.state space.new) }
@@ -78,6 +81,9 @@ pub(crate) fn cut_front<S: Space>(
         (S.image space.old) (S.image space.new)) }
     ensures bytes { Both (ChangesOnly (free_table ∷ filter is_free (gaps_of slots.now.value)))
         (S.image space.old) (S.image space.new) }
+    ensures only { WaitsWhereTold (S.image space.old)
+        (free_table ∷ filter is_free (gaps_of slots.now.value))
+        (S.waiting space.old) (S.waiting space.new) }
     ensures effect { ReadsFew 16 (S.state space.old) (S.state space.new) }
     ensures waiting { how_many (S.waiting space.new) ≤ how_many (S.waiting space.old) + 9 }
     ensures cause { IfErr result (IsRefusal (IsUntold (S.image space.old))

@@ -1,10 +1,15 @@
+use Rattle.std.proofs.Common.{◌∷◌, ◌+◌, filter}
+use Rattle.adf_format.specs.Tiles.{is_free}
 use Rattle.adf_format.specs.HeapRule.{give_joined}
 use Rattle.gap_tree.specs.Slots.{gaps_of}
+use Rattle.field_access.specs.Fields.{ChangesOnly}
+use Rattle.field_access.proofs.WaitLaws.{told_before}
 use Rattle.file_heap.specs.Gaps.{give_right}
+use Rattle.file_heap.specs.Links.{free_table, range}
 use Rattle.file_heap.proofs.Effects.{if_ok}
 use Rattle.file_heap.proofs.JoinLaws.{none_left}
-use Rattle.file_heap.proofs.JoinSteps.{rest_are, renamed, left_clear, left_changed, left_given}
-use Rattle.file_heap.proofs.SpaceLaws.{left_changes}
+use Rattle.file_heap.proofs.JoinSteps.{rest_are, renamed, left_clear, left_changed, left_waited, left_given}
+use Rattle.file_heap.proofs.SpaceLaws.{left_changes, left_waits}
 use Rattle.file_heap.proofs.give.give_range.Goals as goal
 
 pub returns-in_default-clause-given : goal.returns-in_default-clause-given
@@ -34,3 +39,14 @@ pub returns-clause-bytes : goal.returns-clause-bytes
 returns-clause-bytes g c =
     left_changed c.args.place c.args.n c.in-Some.i c.gap_of-gap.result c.args.slots.now.value c.in_ok-rest.rest.value c.requires.gaps c.requires.some c.requires.apart (rw c.deref-2.ensures at c.gap_of-gap.ensures) c.in_ok-rest.ensures.gaps
     (g.S.ReadBytes.image c.args.space.now) (g.S.ReadBytes.image c.absorb.new.space) (g.S.ReadBytes.image c.give_right-2.new.space) (rw c.deref.ensures at c.in-Some.ensures) c.absorb.ensures.bytes c.give_right-2.ensures.bytes
+
+pub returns-in_err-rest-clause-only : goal.returns-in_err-rest-clause-only
+returns-in_err-rest-clause-only g c =
+    left_waits (g.S.ReadBytes.image c.args.space.now) c.args.place c.args.n (gaps_of c.args.slots.now.value) (g.S.ReadBytes.waiting c.args.space.now) (g.S.ReadBytes.waiting c.absorb.new.space) c.absorb.ensures.only
+
+pub returns-clause-only : goal.returns-clause-only
+returns-clause-only g c =
+    left_waited c.args.place c.args.n c.in-Some.i c.gap_of-gap.result c.args.slots.now.value c.in_ok-rest.rest.value c.requires.gaps c.requires.some c.requires.apart (rw c.deref-2.ensures at c.gap_of-gap.ensures) c.in_ok-rest.ensures.gaps
+    (g.S.ReadBytes.image c.args.space.now) (g.S.ReadBytes.waiting c.args.space.now) (g.S.ReadBytes.waiting c.absorb.new.space) (g.S.ReadBytes.waiting c.give_right-2.new.space) (rw c.deref.ensures at c.in-Some.ensures) c.absorb.ensures.only
+    (told_before (ChangesOnly (free_table ∷ filter is_free (gaps_of c.args.slots.now.value))) (g.S.ReadBytes.image c.args.space.now) (g.S.ReadBytes.image c.absorb.new.space) (free_table ∷ range c.gap_of-gap.result.place (c.gap_of-gap.result.length + c.args.n) ∷ gaps_of c.in_ok-rest.rest.value)
+    (g.S.ReadBytes.waiting c.absorb.new.space) (g.S.ReadBytes.waiting c.give_right-2.new.space) c.absorb.ensures.bytes c.give_right-2.ensures.only)

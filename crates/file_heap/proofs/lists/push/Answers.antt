@@ -1,7 +1,7 @@
 use Rattle.std.proofs.Common.{ap, [], ◌∷◌}
 use Rattle.file_heap.specs.Links.{number_of, range}
-use Rattle.file_heap.proofs.PushLaws.{pushed, chunk_changes}
-use Rattle.file_heap.proofs.ChangeLaws.{table_then}
+use Rattle.file_heap.proofs.PushLaws.{pushed, chunk_changes, chunk_waits}
+use Rattle.file_heap.proofs.ChangeLaws.{table_then, table_waits}
 use Rattle.file_heap.proofs.SpotLaws.{number_few}
 use Rattle.file_heap.proofs.lists.push.Goals as goal
 
@@ -27,3 +27,20 @@ returns-clause-bytes g c =
     table_then (range c.args.place c.args.length ∷ []) (g.S.ReadBytes.image c.args.space.now) (g.S.ReadBytes.image c.write_link.new.space) (g.S.ReadBytes.image c.end_list.new.space)
     (chunk_changes c.args.place c.args.length (number_of c.class_of-list.result) c.first_at.result (g.S.ReadBytes.image c.args.space.now) (g.S.ReadBytes.image c.first_in.new.space) (g.S.ReadBytes.image c.write_chunk.new.space) (g.S.ReadBytes.image c.write_link.new.space)
     (number_few c.class_of-list.result) c.first_at.ensures.place c.first_in.ensures.image c.write_chunk.ensures.bytes c.write_link.ensures.bytes) c.end_list.ensures.bytes
+
+pub returns-in_err-write_link-clause-only : goal.returns-in_err-write_link-clause-only
+returns-in_err-write_link-clause-only g c =
+    chunk_waits c.args.place c.args.length (number_of c.class_of-list.result) c.first_at.result (g.S.ReadBytes.waiting c.args.space.now) (g.S.ReadBytes.waiting c.first_in.new.space) (g.S.ReadBytes.waiting c.write_chunk.new.space) (g.S.ReadBytes.waiting c.write_link.new.space)
+    (number_few c.class_of-list.result) c.first_at.ensures.place c.first_in.ensures.waiting c.write_chunk.ensures.only c.write_link.ensures.only
+
+pub returns-in_err-end_list-clause-only : goal.returns-in_err-end_list-clause-only
+returns-in_err-end_list-clause-only g c =
+    table_waits (range c.args.place c.args.length ∷ []) (g.S.ReadBytes.waiting c.args.space.now) (g.S.ReadBytes.waiting c.write_link.new.space) (g.S.ReadBytes.waiting c.end_list.new.space)
+    (chunk_waits c.args.place c.args.length (number_of c.class_of-list.result) c.first_at.result (g.S.ReadBytes.waiting c.args.space.now) (g.S.ReadBytes.waiting c.first_in.new.space) (g.S.ReadBytes.waiting c.write_chunk.new.space) (g.S.ReadBytes.waiting c.write_link.new.space)
+    (number_few c.class_of-list.result) c.first_at.ensures.place c.first_in.ensures.waiting c.write_chunk.ensures.only c.write_link.ensures.only) c.end_list.ensures.only
+
+pub returns-clause-only : goal.returns-clause-only
+returns-clause-only g c =
+    table_waits (range c.args.place c.args.length ∷ []) (g.S.ReadBytes.waiting c.args.space.now) (g.S.ReadBytes.waiting c.write_link.new.space) (g.S.ReadBytes.waiting c.end_list.new.space)
+    (chunk_waits c.args.place c.args.length (number_of c.class_of-list.result) c.first_at.result (g.S.ReadBytes.waiting c.args.space.now) (g.S.ReadBytes.waiting c.first_in.new.space) (g.S.ReadBytes.waiting c.write_chunk.new.space) (g.S.ReadBytes.waiting c.write_link.new.space)
+    (number_few c.class_of-list.result) c.first_at.ensures.place c.first_in.ensures.waiting c.write_chunk.ensures.only c.write_link.ensures.only) c.end_list.ensures.only

@@ -2,7 +2,7 @@ use Rattle.gap_tree.specs.Slots.{gaps_of}
 use Rattle.file_heap.proofs.Effects.{if_both, or_made}
 use Rattle.file_heap.proofs.CutSteps.{cut_becomes, whole_becomes}
 use Rattle.file_heap.proofs.JoinSteps.{rest_are}
-use Rattle.file_heap.proofs.SpaceLaws.{cut_changes}
+use Rattle.file_heap.proofs.SpaceLaws.{cut_changes, cut_waits}
 use Rattle.file_heap.proofs.take.cut_front.Goals as goal
 
 pub returns-clause-taken : goal.returns-clause-taken
@@ -30,3 +30,13 @@ pub returns-clause-bytes : goal.returns-clause-bytes
 returns-clause-bytes g c =
     cut_changes (gaps_of c.args.slots.now.value) c.args.i c.args.n c.gap_of-gap.result (g.S.ReadBytes.image c.args.space.now) (g.S.ReadBytes.image c.absorb.new.space) (g.S.ReadBytes.image c.give_alone.new.space)
     (rw c.deref.ensures at c.gap_of-gap.ensures) c.requires.gaps c.requires.fit c.absorb.ensures.bytes c.give_alone.ensures.bytes
+
+pub returns-in_err-more-clause-only : goal.returns-in_err-more-clause-only
+returns-in_err-more-clause-only g c =
+    cut_waits (g.S.ReadBytes.image c.args.space.now) (gaps_of c.args.slots.now.value) c.args.i c.args.n c.gap_of-gap.result (g.S.ReadBytes.waiting c.args.space.now) (g.S.ReadBytes.waiting c.absorb.new.space) (g.S.ReadBytes.waiting c.give_alone.new.space)
+    (rw c.deref.ensures at c.gap_of-gap.ensures) c.requires.gaps c.requires.fit c.absorb.ensures.only c.give_alone.ensures.only
+
+pub returns-clause-only : goal.returns-clause-only
+returns-clause-only g c =
+    cut_waits (g.S.ReadBytes.image c.args.space.now) (gaps_of c.args.slots.now.value) c.args.i c.args.n c.gap_of-gap.result (g.S.ReadBytes.waiting c.args.space.now) (g.S.ReadBytes.waiting c.absorb.new.space) (g.S.ReadBytes.waiting c.give_alone.new.space)
+    (rw c.deref.ensures at c.gap_of-gap.ensures) c.requires.gaps c.requires.fit c.absorb.ensures.only c.give_alone.ensures.only

@@ -45,7 +45,7 @@ returns-clause-changes g c =
     (subst (λ (s : HeapState). MeetsNone c.args.place c.args.n s.work.heap.gaps) (sym c.self.view_is) c.requires.apart) c.requires.within.0
     (subst (λ (s : HeapState). c.args.place + c.args.n ≤ s.work.heap.end + 1) (sym c.self.view_is) c.requires.within.1) c.self.invariant.now_is c.give_back.ensures.sound
     (subst (λ (s : HeapState). IfSome (g.S.ReadBytes.image c.args.space.now) (IsThreaded s.work)) (sym c.self.view_is) c.requires.threads)
-    c.give_back.ensures.given c.give_back.ensures.stays c.give_back.ensures.bytes c.give_back.ensures.effect c.give_back.ensures.waiting c.give_back.ensures.cause)
+    c.give_back.ensures.given c.give_back.ensures.stays c.give_back.ensures.bytes c.give_back.ensures.effect c.give_back.ensures.waiting c.give_back.ensures.only c.give_back.ensures.cause)
 
 pub give_back-requires-clause-threads : goal.give_back-requires-clause-threads
 unfolding IsThreaded

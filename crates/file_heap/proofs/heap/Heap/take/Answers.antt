@@ -31,7 +31,7 @@ returns-in-None-clause-changes g c =
     subst (λ (s : HeapState). ChangesHeap g.S.ReadBytes.is_sound g.S.ReadBytes.image g.S.ReadBytes.state g.S.ReadBytes.waiting [] 9 (IsTakeRefusal (IsUntold (g.S.ReadBytes.image c.args.space.now))) s (state_of (slots_in c.self.inside.work c.self.inside.kept.value) c.grow.new.end (space_of c.self.inside.kept.value c.self.inside.kept_end) c.self.inside.limit) c.args.space.now c.grow.new.space c.grow.result) c.self.view_is
     (grown_leaves g.S.ReadBytes.is_sound g.S.ReadBytes.image g.S.ReadBytes.state g.S.ReadBytes.waiting (slots_in c.self.inside.work c.self.inside.kept.value) c.self.inside.end (space_of c.self.inside.kept.value c.self.inside.kept_end) c.self.inside.limit c.args.space.now c.grow.new.space c.self.invariant.now_is c.grow.ensures.sound
     (subst (λ (s : HeapState). IfSome (g.S.ReadBytes.image c.args.space.now) (IsThreaded s.work)) (sym c.self.view_is) c.requires.threads)
-    c.args.n c.grow.new.end c.grow.result c.self.invariant.most c.grow.ensures.grows c.grow.ensures.threads c.grow.ensures.bytes c.grow.ensures.end c.grow.ensures.effect c.grow.ensures.waiting c.grow.ensures.cause)
+    c.args.n c.grow.new.end c.grow.result c.self.invariant.most c.grow.ensures.grows c.grow.ensures.threads c.grow.ensures.bytes c.grow.ensures.end c.grow.ensures.effect c.grow.ensures.waiting c.grow.ensures.only c.grow.ensures.cause)
 
 pub invariant_of-self : goal.invariant_of-self
 invariant_of-self g c = record {
@@ -72,7 +72,7 @@ returns-in-Some-clause-changes g c =
     subst (λ (s : HeapState). ChangesHeap g.S.ReadBytes.is_sound g.S.ReadBytes.image g.S.ReadBytes.state g.S.ReadBytes.waiting [] 9 (IsTakeRefusal (IsUntold (g.S.ReadBytes.image c.args.space.now))) s (state_of (slots_in c.take_front.new.work c.self.inside.kept.value) c.self.inside.end (space_of c.self.inside.kept.value c.self.inside.kept_end) c.self.inside.limit) c.args.space.now c.take_front.new.space c.take_front.result) c.self.view_is
     (taken_leaves g.S.ReadBytes.is_sound g.S.ReadBytes.image g.S.ReadBytes.state g.S.ReadBytes.waiting (slots_in c.self.inside.work c.self.inside.kept.value) (slots_in c.take_front.new.work c.self.inside.kept.value) c.self.inside.end (space_of c.self.inside.kept.value c.self.inside.kept_end) c.self.inside.limit c.args.n c.in-Some.i c.args.space.now c.take_front.new.space c.take_front.result c.requires.some.0 c.self.invariant.now_is c.take_front.ensures.sound
     (subst (λ (s : HeapState). IfSome (g.S.ReadBytes.image c.args.space.now) (IsThreaded s.work)) (sym c.self.view_is) c.requires.threads)
-    (rw c.current.ensures at (rw c.deref.ensures at c.in-Some.ensures)) c.take_front.ensures.place c.take_front.ensures.taken c.take_front.ensures.stays c.take_front.ensures.bytes c.take_front.ensures.effect c.take_front.ensures.waiting c.take_front.ensures.cause)
+    (rw c.current.ensures at (rw c.deref.ensures at c.in-Some.ensures)) c.take_front.ensures.place c.take_front.ensures.taken c.take_front.ensures.stays c.take_front.ensures.bytes c.take_front.ensures.effect c.take_front.ensures.waiting c.take_front.ensures.only c.take_front.ensures.cause)
 
 pub invariant_of-self-in-Some : goal.invariant_of-self-in-Some
 invariant_of-self-in-Some g c = record {
