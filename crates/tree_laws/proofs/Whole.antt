@@ -15,3 +15,4 @@ pub mod Links
 pub mod LinksFull
 pub mod Sets
 pub mod GroupsWhole
+pub mod Reached

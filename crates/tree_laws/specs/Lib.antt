@@ -32,3 +32,4 @@ pub mod TreeFacts
 pub mod Placed
 pub mod FileStops
 pub mod Pays
+pub mod Reached

@@ -12,5 +12,6 @@ pub mod holding_laws;
 pub mod leaving_laws;
 pub mod move_laws;
 pub mod placed_laws;
+pub mod reach_laws;
 pub mod reading_laws;
 pub mod whole_laws;
