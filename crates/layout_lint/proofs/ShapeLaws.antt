@@ -50,7 +50,7 @@ below_later nodes more count later n le b = let before = b.before in record {
   near = b.near;
 }
 
-linked_then : (nodes : List NodePlace) (n : NodePlace) → AreLinked nodes → MayFollow nodes n → AreLinked (nodes ++ n ∷ [])
+pub linked_then : (nodes : List NodePlace) (n : NodePlace) → AreLinked nodes → MayFollow nodes n → AreLinked (nodes ++ n ∷ [])
 linked_then nodes n l may = record { root = root; others = others }
   where
     root : (m : NodePlace) → slice_get (nodes ++ n ∷ []) 0 ≡ Some m → IsTop m
@@ -71,7 +71,7 @@ linked_then nodes n l may = record { root = root; others = others }
       ]
     ]
 
-within_then : (wide : Bool) (end : ℕ) (nodes : List NodePlace) (n : NodePlace) → AreWithin wide end nodes → (266 ≤ n.place) × (n.place + node_length wide ≤ end + 1) → AreWithin wide end (nodes ++ n ∷ [])
+pub within_then : (wide : Bool) (end : ℕ) (nodes : List NodePlace) (n : NodePlace) → AreWithin wide end nodes → (266 ≤ n.place) × (n.place + node_length wide ≤ end + 1) → AreWithin wide end (nodes ++ n ∷ [])
 within_then wide end nodes n w fits = λ k m e. elim (get_cases nodes n m k e) [
   | inl h ↦ w k m h
   | inr h ↦ subst (λ (m : NodePlace). (266 ≤ m.place) × (m.place + node_length wide ≤ end + 1)) h.1 fits
@@ -131,7 +131,7 @@ rooted_then wide end nodes extents after n r follows fits adds = record {
 }
 
 -- the families are still those of the nodes, and so is that of the last one
-families_then : (nodes : List NodePlace) (n : NodePlace) (old new : List Family) (f : Family) → All (IsFamilyOf nodes) old → new ≡ old ++ f ∷ [] → f.number ≡ length nodes → n.depth ≡ f.depth → All (IsFamilyOf (nodes ++ n ∷ [])) new
+pub families_then : (nodes : List NodePlace) (n : NodePlace) (old new : List Family) (f : Family) → All (IsFamilyOf nodes) old → new ≡ old ++ f ∷ [] → f.number ≡ length nodes → n.depth ≡ f.depth → All (IsFamilyOf (nodes ++ n ∷ [])) new
 families_then nodes n old new f all pushed number depth = subst (All (IsFamilyOf (nodes ++ n ∷ []))) (sym pushed)
     (All-push (IsFamilyOf (nodes ++ n ∷ [])) old f (All-weaker (IsFamilyOf nodes) (IsFamilyOf (nodes ++ n ∷ [])) (λ g h. record { parent = h.parent; stands = get_kept nodes (n ∷ []) h.parent g.number h.stands; depth = h.depth }) old all)
     (record { parent = n; stands = subst (λ k. slice_get (nodes ++ n ∷ []) k ≡ Some n) (sym number) (get_last nodes n); depth = depth }))

@@ -41,8 +41,8 @@ pub fn place_of(p: DiskPtr) -> u64
     }
 }
 
-// The length of the device, which has a head: rule 1.
-fn length_of<B: Blocks>(blocks: &mut B, page: &Page) -> Result<u64, Halt>
+/// The length of the device, which has a head: rule 1.
+pub fn length_of<B: Blocks>(blocks: &mut B, page: &Page) -> Result<u64, Halt>
     requires { IsReady (B.is_sound blocks.old) (B.state blocks.old).held page.now }
     ensures ready { IsReady (B.is_sound blocks.new) (B.state blocks.new).held page.now }
     ensures rows { Told (B.state blocks.old).held
@@ -60,8 +60,8 @@ fn length_of<B: Blocks>(blocks: &mut B, page: &Page) -> Result<u64, Halt>
     }
 }
 
-// The header: rules 2 to 7.
-fn header_at<B: Blocks>(blocks: &mut B, page: &mut Page) -> Result<FileHeader, Halt>
+/// The header: rules 2 to 7.
+pub fn header_at<B: Blocks>(blocks: &mut B, page: &mut Page) -> Result<FileHeader, Halt>
     requires { IsReady (B.is_sound blocks.old) (B.state blocks.old).held page.old }
     ensures ready { IsReady (B.is_sound blocks.new) (B.state blocks.new).held page.new }
     ensures rows { Told (B.state blocks.old).held (λ image. 266 ≤ length image

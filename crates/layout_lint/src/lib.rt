@@ -24,6 +24,7 @@ mod paths;
 mod stack;
 mod verdict;
 mod walk;
+pub mod walking;
 
 pub use adf_format::{Extent, ExtentKind, Extents, Format};
 pub use examine::lint;
