@@ -167,9 +167,12 @@ zero_at zero k = refl
 zero_at (suc n) zero = refl
 zero_at (suc n) (suc k) = zero_at n k
 
+pub zeros_long : (n m : ℕ) → n ≤ m → length (take n (zeros m)) ≡ n
+zeros_long n m le = ap length (zeros_taken m n le) ∙ length-replicate {A = ℕ} n 0
+
 pub zeros_cleared : {T E : Type 0} (r : Result T E) (at n m : ℕ) → n ≤ m → (old new : Option (List ℕ)) → OnOk r (Both (Writes at (take n (zeros m))) old new) → Both (ChangesOnly (range at (length (take n (zeros m))) ∷ [])) old new → OnOk r (Both (Clears at n) old new)
 zeros_cleared r at n m le old new wrote only =
-    piece_cleared r at n (take n (zeros m)) old new (ap length (zeros_taken m n le) ∙ length-replicate {A = ℕ} n 0) (λ k lt. ap (λ (xs : List ℕ). get_or xs k 0) (zeros_taken m n le) ∙ zero_at n k) wrote only
+    piece_cleared r at n (take n (zeros m)) old new (zeros_long n m le) (λ k lt. ap (λ (xs : List ℕ). get_or xs k 0) (zeros_taken m n le) ∙ zero_at n k) wrote only
 
 -- ---- blocks
 

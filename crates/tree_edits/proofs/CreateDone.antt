@@ -50,7 +50,7 @@ use Rattle.tree_edits.proofs.CreatesLonger.{follows_longer}
 -- ---- required on the way
 
 -- bytes of live parts may be given
-live_may : (image : List ℕ) (tree : Tree) (p : Placement) (core : Core) (m : Means image tree p (memory_of core)) (from n : ℕ) → 0 < n → ((b : ℕ) → from ≤ b → b < from + n → 0 < cover (live_extents tree.wide p) b) → MayGive from n core.heap.work.heap
+pub live_may : (image : List ℕ) (tree : Tree) (p : Placement) (core : Core) (m : Means image tree p (memory_of core)) (from n : ℕ) → 0 < n → ((b : ℕ) → from ≤ b → b < from + n → 0 < cover (live_extents tree.wide p) b) → MayGive from n core.heap.work.heap
 live_may image tree p core m from n some live = subst (MayGive from n) m.heap (record {
   low = low (less_or from 266);
   high = let last = up_to_end image tree p [] (from_layout image tree p m.laid_out) (from + n - 1) (let l = live (from + n - 1) (omega (arith, some)) (omega (arith, some)) in let all = cover_all tree.wide p (from + n - 1) in omega (arith, l, all)) in omega (arith, last, some);

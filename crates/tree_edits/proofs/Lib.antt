@@ -33,3 +33,6 @@ pub mod LinkLonger
 pub mod LinkRefused
 pub mod LinkDone
 pub mod Leaves
+pub mod Waiting
+pub mod WaitSteps
+pub mod Reaching

@@ -68,7 +68,7 @@ module _ (image : List ℕ) (core : Core) (at : NodeId) (name file path : List �
   has_table : HasTable image tree p (creates.up image core at name [] parent may.room tree p m).node from.table
   has_table = (m.laid_out.nodes at.serial (creates.up image core at name [] parent may.room tree p m).node from (creates.up image core at name [] parent may.room tree p m).is.live (creates.up image core at name [] parent may.room tree p m).is.stands).table
 
-  old_extents : (o : Option TablePart) → from.table ≡ o → extents_of_table parent.table ≡ table_extents o
+  pub old_extents : (o : Option TablePart) → from.table ≡ o → extents_of_table parent.table ≡ table_extents o
   old_extents None e =
       let none = entries ∙ ap entry_count e in
       ap (λ n. if nat_lt 0 n then extent ExtentKind.SubNodes parent.table.place (table_length n) ∷ [] else []) none

@@ -25,6 +25,10 @@ put_there kind place n text old new long w only =
 entry_long : (name : List ℕ) (place : ℕ) → length name ≡ 32 → length (entry_text name (To place)) ≡ 44
 entry_long name place long = length-append name (pointer_text (To place)) ∙ ap (λ n. n + length (pointer_text (To place))) long ∙ ap (λ n. 32 + n) (length-pointer_text (To place))
 
+-- the text of an entry, by its length
+pub text_long : (name text : List ℕ) (place : ℕ) → length name ≡ 32 → text ≡ entry_text name (To place) → length text ≡ 44
+text_long name text place long is = ap length is ∙ entry_long name place long
+
 pub both_written : {T E : Type 0} (r : Result T E) (place entry : ℕ) (name text : List ℕ) (old mid new : Option (List ℕ)) → length name ≡ 32 → text ≡ entry_text name (To place)
     → Both (Writes (place + 4) name) old mid → Both (ChangesOnly (range (place + 4) (length name) ∷ [])) old mid
     → OnOk r (Both (Writes entry text) mid new) → Both (ChangesOnly (range entry (length text) ∷ [])) mid new
@@ -32,7 +36,7 @@ pub both_written : {T E : Type 0} (r : Result T E) (place entry : ℕ) (name tex
 both_written r place entry name text old mid new long is one only wrote rest = on_ok_weaker r (by_held old mid new one only rest) wrote
   where
     far : length text ≡ 44
-    far = ap length is ∙ entry_long name place long
+    far = text_long name text place long is
 
     by_held : (old mid new : Option (List ℕ)) → Both (Writes (place + 4) name) old mid → Both (ChangesOnly (range (place + 4) (length name) ∷ [])) old mid → Both (ChangesOnly (range entry (length text) ∷ [])) mid new → Both (Writes entry text) mid new
         → Both (Then (Puts ExtentKind.Node (place + 4) 32 name) (Puts ExtentKind.SubNodes entry 44 (entry_text name (To place)))) old new

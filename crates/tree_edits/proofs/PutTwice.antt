@@ -55,11 +55,14 @@ fill_once r a n text old new long wrote only = on_ok_weaker r (by_held old new o
         record { stands = subst (λ k. field new a k ≡ text) long w.stands; reaches = λ some. let far = ap length w.stands in let m = length-field new a (length text) in omega (arith, far, m, long, some); only = puts.only }
 
 -- the fields of a table in a header
+pub fields_long : (place count : ℕ) (text : List ℕ) → text ≡ table_fields place count → length text ≡ 28
+fields_long place count text is = ap length is ∙ length-append (hex_text 8 (suc count) ++ hex_text 8 (grown_entries count)) (pointer_text (To place)) ∙ ap (λ k. 16 + k) (length-pointer_text (To place))
+
 pub put_fields : (a place count : ℕ) (text : List ℕ) (old new : Option (List ℕ)) → text ≡ table_fields place count → Both (Writes a text) old new → Both (ChangesOnly (range a (length text) ∷ [])) old new → Both (Puts ExtentKind.Node a 28 (table_fields place count)) old new
 put_fields a place count text old new is = by_held old new
   where
     long : length text ≡ 28
-    long = ap length is ∙ length-append (hex_text 8 (suc count) ++ hex_text 8 (grown_entries count)) (pointer_text (To place)) ∙ ap (λ k. 16 + k) (length-pointer_text (To place))
+    long = fields_long place count text is
 
     by_held : (old new : Option (List ℕ)) → Both (Writes a text) old new → Both (ChangesOnly (range a (length text) ∷ [])) old new → Both (Puts ExtentKind.Node a 28 (table_fields place count)) old new
     by_held None None w only = tt

@@ -12,3 +12,4 @@ pub mod Created
 pub mod Linked
 pub mod Linkable
 pub mod Left
+pub mod Waiting

@@ -1,6 +1,6 @@
 //! New nodes: a header in room that the heap gives, and an entry in the table of the parent.
 
-ghost use Rattle.std.specs.Prelude.{◌≡◌, ℕ, ◌^◌, ◌+◌, ◌≤◌, length, Ok, IfErr, IfOk, IfSome, OnOk};
+ghost use Rattle.std.specs.Prelude.{◌≡◌, ℕ, ◌^◌, ◌+◌, ◌≤◌, [], ◌∷◌, length, Ok, IfErr, IfOk, IfSome, OnOk};
 ghost use Rattle.adf_format.specs.HeapRule.{heap_take};
 ghost use Rattle.adf_format.specs.Placement.{Placement};
 ghost use Rattle.adf_format.specs.Records.{node_text};
@@ -14,6 +14,8 @@ ghost use Rattle.cg_io.specs.Blocks.{Both, ReadsFew};
 ghost use Rattle.tree_edits.specs.Rows.{AreNear, Means};
 ghost use Rattle.tree_edits.specs.Edits.{Does, Refuses, KeepsCore, memory_of};
 ghost use Rattle.tree_edits.specs.Taken.{IsReady, FillsWith, TakesText, KeepsHeap, LacksBytes, IsRoomless};
+ghost use Rattle.field_access.specs.Fields.{WaitsWithin, range};
+ghost use Rattle.tree_edits.specs.Waiting.{TakesInRoom, IfTold, Reaches};
 ghost use Rattle.tree_edits.specs.Created.{IsCreatable, IsCreateCause, CreatesWithin};
 
 use crate::join::join_child;
@@ -63,6 +65,8 @@ fn write_text<S: Space, const N: usize>(
     requires within { place + N ≤ 2 ^ 44 }
     ensures written { OnOk result (Both (FillsWith place N text.now)
         (S.image space.old) (S.image space.new)) }
+    ensures waits { OnOk result (WaitsWithin (range place N ∷ []) (S.waiting space.old)
+        (S.waiting space.new)) }
     ensures writes { AnswersWrite S.is_sound S.state S.waiting 2 (ReadsFew 2) (IsRefusal ⊥)
         space.old space.new result }
 {
@@ -80,6 +84,8 @@ pub(crate) fn write_header<S: Space>(
     requires within { place + node_length header.now.wide ≤ 2 ^ 44 }
     ensures written { OnOk result (Both (FillsWith place (node_length header.now.wide)
         (node_text (record_of header.now))) (S.image space.old) (S.image space.new)) }
+    ensures waits { OnOk result (WaitsWithin (range place (node_length header.now.wide) ∷ [])
+        (S.waiting space.old) (S.waiting space.new)) }
     ensures writes { AnswersWrite S.is_sound S.state S.waiting 2 (ReadsFew 2) (IsRefusal ⊥)
         space.old space.new result }
 {
@@ -105,6 +111,9 @@ fn make_header<S: Space>(
     ensures made { IfOk result (λ place. Both (TakesText heap.old.limit (node_length wide) place
         (node_text (empty_node wide name.now label.now)) heap.old.work heap.new.work)
         (S.image space.old) (S.image space.new)) }
+    ensures waits { IfOk result (λ place. IfTold (S.image space.old)
+        (TakesInRoom (range place (node_length wide) ∷ []) heap.old.work.heap
+        heap.new.work.heap (S.waiting space.old) (S.waiting space.new))) }
     ensures taken { IfOk result (λ place. heap_take heap.old.limit (node_length wide)
         heap.old.work.heap ≡ Ok (place, heap.new.work.heap)) }
     ensures near { IfOk result (λ place. place + node_length wide ≤ 2 ^ 44) }
@@ -137,6 +146,9 @@ pub fn create<S: Space>(
         (λ bytes. (tree : Tree) × (p : Placement) × Means bytes tree p (memory_of core.old)) }
     ensures done { OnOk result (Both (Does (Edit.Create at name.now label.now) core.old core.new)
         (S.image space.old) (S.image space.new)) }
+    ensures reached { OnOk result (IfSome (S.image space.old)
+        (Reaches (Edit.Create at name.now label.now) core.old core.new (S.waiting space.old)
+        (S.waiting space.new))) }
     ensures serial { IfOk result (λ serial. serial ≡ length core.old.rows.items) }
     ensures allowed { OnOk result (IsCreatable core.old at name.now label.now (S.image space.old)) }
     ensures refused { IfErr result (λ e. IfSome (S.image space.old)

@@ -11,7 +11,9 @@ ghost use Rattle.cg_io.specs.Answers.{AnswersWrite, IsRefusal, IsUntold, OnlyRea
 ghost use Rattle.cg_io.specs.Blocks.{Both, ReadsFew};
 ghost use Rattle.tree_laws.specs.MidEdit.{Puts};
 ghost use Rattle.tree_edits.specs.Taken.{IsReady, KeepsHeap, IsRoomless};
+ghost use Rattle.field_access.specs.Fields.{WaitsWithin};
 ghost use Rattle.tree_edits.specs.Joined.{OwnsTable, JoinsChild, LacksTable, join_cost};
+ghost use Rattle.tree_edits.specs.Waiting.{WaitsInRoom, IfTold, parent_ranges};
 
 use crate::longer::join_longer;
 use crate::room::Parent;
@@ -38,6 +40,8 @@ pub fn join_unused<S: Space>(
         (Puts ExtentKind.SubNodes (parent.table.place + 16 + 44 * parent.table.count) 44 entry.now)
         (Puts ExtentKind.Node (parent.row.place + 68) 8 (hex_text 8 (suc parent.table.count))))
         (S.image space.old) (S.image space.new)) }
+    ensures waits { OnOk result (WaitsWithin (parent_ranges parent) (S.waiting space.old)
+        (S.waiting space.new)) }
     ensures writes { AnswersWrite S.is_sound S.state S.waiting 4 (ReadsFew 4) (IsRefusal ⊥)
         space.old space.new result }
 {
@@ -84,6 +88,8 @@ pub(crate) fn join_child<S: Space>(
     ensures joined { OnOk result (Both (JoinsChild heap.old.limit parent
         (entry_text (text_field 32 name.now) (To place)) heap.old.work heap.new.work)
         (S.image space.old) (S.image space.new)) }
+    ensures waits { OnOk result (IfTold (S.image space.old) (WaitsInRoom (parent_ranges parent)
+        heap.old.work.heap heap.new.work.heap (S.waiting space.old) (S.waiting space.new))) }
     ensures kept { KeepsHeap heap.old heap.new }
     ensures writes { AnswersWrite S.is_sound S.state S.waiting (join_cost parent.table) OnlyReads
         (IsRoomless (LacksTable heap.old.limit parent heap.old.work.heap)

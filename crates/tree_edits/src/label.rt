@@ -8,6 +8,7 @@ ghost use Rattle.adf_model.specs.declared.tree.Edit.{Edit};
 ghost use Rattle.tree_edits.specs.Rows.{AreNear};
 ghost use Rattle.tree_edits.specs.Edits.{Does, Refuses};
 ghost use Rattle.tree_edits.specs.Causes.{IsLabelCause, MaySetLabel};
+ghost use Rattle.tree_edits.specs.Waiting.{Reaches};
 
 use crate::memory::Core;
 use adf_format::DataType;
@@ -36,6 +37,9 @@ pub fn set_label<S: Space>(
     requires near { AreNear core.now.wide core.now.rows.items }
     ensures done { OnOk result (Both (Does (Edit.SetLabel node label.now) core.now core.now)
         (S.image space.old) (S.image space.new)) }
+    ensures reached { OnOk result (IfSome (S.image space.old)
+        (Reaches (Edit.SetLabel node label.now) core.now core.now (S.waiting space.old)
+        (S.waiting space.new))) }
     ensures allowed { OnOk result (MaySetLabel core.now node label.now (S.image space.old)) }
     ensures refused { IfErr result (λ e. IfSome (S.image space.old)
         (Refuses (Edit.SetLabel node label.now) core.now e)) }

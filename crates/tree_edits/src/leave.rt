@@ -1,10 +1,11 @@
 //! A child leaves the list of its parent.
 
-ghost use Rattle.std.specs.Prelude.{◌^◌, ◌+◌, ◌≤◌, ◌<◌, length, OnOk};
+ghost use Rattle.std.specs.Prelude.{◌^◌, ◌+◌, ◌≤◌, ◌<◌, [], ◌∷◌, length, OnOk};
 ghost use Rattle.adf_format.specs.RecordFields.{table_length};
 ghost use Rattle.cg_io.specs.Answers.{AnswersWrite, IsRefusal, OnlyReads};
 ghost use Rattle.cg_io.specs.Blocks.{Both, blocks_of};
-ghost use Rattle.tree_edits.specs.Left.{MovesUp, LeavesList, leave_cost};
+ghost use Rattle.field_access.specs.Fields.{WaitsWithin, range};
+ghost use Rattle.tree_edits.specs.Left.{MovesUp, LeavesList, entry_place, length_behind, leave_cost};
 
 use crate::listed::Listed;
 use crate::longer::block_rest;
@@ -25,6 +26,8 @@ fn move_through<S: Space>(
     requires to { to + length piece.old ≤ 2 ^ 44 }
     ensures moved { OnOk result (Both (MovesUp from to (length piece.old)) (S.image space.old)
         (S.image space.new)) }
+    ensures waits { OnOk result (WaitsWithin (range to (length piece.old) ∷ [])
+        (S.waiting space.old) (S.waiting space.new)) }
     ensures writes { AnswersWrite S.is_sound S.state S.waiting (blocks_of to (length piece.old))
         OnlyReads (IsRefusal ⊥) space.old space.new result }
 {
@@ -43,6 +46,8 @@ fn move_piece<S: Space>(space: &mut S, from: u64, to: u64, count: usize) -> Resu
     requires to { to + count ≤ 2 ^ 44 }
     ensures moved { OnOk result (Both (MovesUp from to count) (S.image space.old)
         (S.image space.new)) }
+    ensures waits { OnOk result (WaitsWithin (range to count ∷ []) (S.waiting space.old)
+        (S.waiting space.new)) }
     ensures writes { AnswersWrite S.is_sound S.state S.waiting (blocks_of to count) OnlyReads
         (IsRefusal ⊥) space.old space.new result }
 {
@@ -57,6 +62,8 @@ pub fn move_up<S: Space>(space: &mut S, from: u64, to: u64, count: u64) -> Resul
     requires within { from + count ≤ 2 ^ 44 }
     ensures moved { OnOk result (Both (MovesUp from to count) (S.image space.old)
         (S.image space.new)) }
+    ensures waits { OnOk result (WaitsWithin (range to count ∷ []) (S.waiting space.old)
+        (S.waiting space.new)) }
     ensures writes { AnswersWrite S.is_sound S.state S.waiting (blocks_of to count) OnlyReads
         (IsRefusal ⊥) space.old space.new result }
 {
@@ -82,6 +89,8 @@ pub fn leave_list<S: Space>(space: &mut S, header: u64, listed: Listed) -> Resul
     requires few { listed.table.count ≤ listed.table.entries }
     ensures left { OnOk result (Both (LeavesList header listed) (S.image space.old)
         (S.image space.new)) }
+    ensures waits { OnOk result (WaitsWithin (range (entry_place listed) (length_behind listed)
+        ∷ range (header + 68) 8 ∷ []) (S.waiting space.old) (S.waiting space.new)) }
     ensures writes { AnswersWrite S.is_sound S.state S.waiting (leave_cost listed) OnlyReads
         (IsRefusal ⊥) space.old space.new result }
 {

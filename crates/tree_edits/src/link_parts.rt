@@ -1,6 +1,6 @@
 //! The parts of a link: its header and its chunk are written, and its parent lists it.
 
-ghost use Rattle.std.specs.Prelude.{◌≡◌, ◌^◌, ◌+◌, ◌≤◌, ◌<◌, length, map, take, IfOk, IfSome, OnOk};
+ghost use Rattle.std.specs.Prelude.{◌≡◌, ◌^◌, ◌+◌, ◌≤◌, ◌<◌, [], ◌∷◌, ◌++◌, length, map, take, IfOk, IfSome, OnOk};
 ghost use Rattle.adf_format.specs.Fields.{text_field};
 ghost use Rattle.adf_format.specs.HeapRule.{chunk_length_for};
 ghost use Rattle.adf_format.specs.Hex.{hex_text};
@@ -14,6 +14,8 @@ ghost use Rattle.cg_io.specs.Blocks.{Both, ReadsFew};
 ghost use Rattle.tree_laws.specs.NodeJoin.{link_record};
 ghost use Rattle.tree_edits.specs.Taken.{IsReady, KeepsHeap, IsRoomless, FillsWith};
 ghost use Rattle.tree_edits.specs.Joined.{OwnsTable, join_cost};
+ghost use Rattle.field_access.specs.Fields.{WaitsWithin, range};
+ghost use Rattle.tree_edits.specs.Waiting.{WaitsInRoom, IfTold, parent_ranges, table_room};
 ghost use Rattle.tree_edits.specs.Linked.{FitsTable, MayList, ListsIn, LacksRooms, WritesLink, PutsLink, chunk_text};
 
 use crate::chunk::{chunk_length, chunk_text};
@@ -81,6 +83,8 @@ fn write_chunk<S: Space>(
     requires near { place + chunk_length_for (length text.now) ≤ 2 ^ 44 }
     ensures written { OnOk result (Both (FillsWith place (chunk_length_for (length text.now))
         (chunk_text place text.now)) (S.image space.old) (S.image space.new)) }
+    ensures waits { OnOk result (WaitsWithin (range place (chunk_length_for (length text.now))
+        ∷ []) (S.waiting space.old) (S.waiting space.new)) }
     ensures writes { AnswersWrite S.is_sound S.state S.waiting 3 (ReadsFew 3) (IsRefusal ⊥)
         space.old space.new result }
 {
@@ -107,6 +111,9 @@ fn write_link<S: Space>(
     requires chunk { rooms.chunk + chunk_length_for (length text.now) ≤ 2 ^ 44 }
     ensures written { OnOk result (Both (WritesLink wide name.now text.now rooms)
         (S.image space.old) (S.image space.new)) }
+    ensures waits { OnOk result (WaitsWithin (range rooms.chunk (chunk_length_for
+        (length text.now)) ∷ range rooms.header (node_length wide) ∷ [])
+        (S.waiting space.old) (S.waiting space.new)) }
     ensures writes { AnswersWrite S.is_sound S.state S.waiting 5 OnlyReads (IsRefusal ⊥)
         space.old space.new result }
 {
@@ -134,6 +141,9 @@ fn list_child<S: Space>(
     requires fits { FitsTable parent table }
     ensures listed { OnOk result (Both (ListsIn parent entry.now table heap.old.work
         heap.new.work) (S.image space.old) (S.image space.new)) }
+    ensures waits { OnOk result (IfTold (S.image space.old)
+        (WaitsInRoom (table_room parent table ++ parent_ranges parent) heap.old.work.heap
+        heap.new.work.heap (S.waiting space.old) (S.waiting space.new))) }
     ensures kept { KeepsHeap heap.old heap.new }
     ensures writes { AnswersWrite S.is_sound S.state S.waiting (join_cost parent.table) OnlyReads
         (IsRefusal (IsUntold (S.image space.old))) space.old space.new result }
@@ -165,6 +175,8 @@ pub(crate) fn put_link<S: Space>(
     requires within { parent.table.count ≤ parent.table.entries }
     ensures put { IfOk result (λ place. Both (PutsLink heap.old.limit wide parent name.now
         text.now place heap.old.work heap.new.work) (S.image space.old) (S.image space.new)) }
+    ensures waits { OnOk result (IfTold (S.image space.old) (WaitsInRoom (parent_ranges parent)
+        heap.old.work.heap heap.new.work.heap (S.waiting space.old) (S.waiting space.new))) }
     ensures near { IfOk result (λ place. place + node_length wide ≤ 2 ^ 44) }
     ensures kept { KeepsHeap heap.old heap.new }
     ensures writes { AnswersWrite S.is_sound S.state S.waiting (32 + join_cost parent.table)

@@ -1,12 +1,14 @@
 //! Room that the heap gives for the parts of a link, in the order of the rule.
 
-ghost use Rattle.std.specs.Prelude.{◌≡◌, ◌^◌, ◌+◌, ◌≤◌, ◌<◌, Ok, IfOk, IfSome, OnOk};
+ghost use Rattle.std.specs.Prelude.{◌≡◌, ◌^◌, ◌+◌, ◌≤◌, ◌<◌, [], ◌∷◌, Ok, IfOk, IfSome, OnOk};
 ghost use Rattle.adf_format.specs.HeapRule.{heap_take};
 ghost use Rattle.adf_format.specs.RecordFields.{node_length};
 ghost use Rattle.cg_io.specs.Answers.{AnswersWrite, IsUntold, OnlyReads};
 ghost use Rattle.cg_io.specs.Blocks.{Both, ReadsFew};
 ghost use Rattle.tree_edits.specs.Taken.{IsReady, Takes, KeepsHeap, LacksBytes, IsRoomless};
 ghost use Rattle.tree_edits.specs.Joined.{LacksTable};
+ghost use Rattle.field_access.specs.Fields.{range};
+ghost use Rattle.tree_edits.specs.Waiting.{TakesInRoom, IfTold, table_room, link_rooms};
 ghost use Rattle.tree_edits.specs.Linked.{FitsTable, TakesTable, HeapTakesTable, TakesRooms, AreRoomsNear, LacksRooms};
 
 use crate::longer::grown;
@@ -32,6 +34,9 @@ pub(crate) fn take_room<S: Space>(space: &mut S, heap: &mut Heap, n: u64) -> Res
     requires ready { IfSome (S.image space.old) (IsReady heap.old.work) }
     ensures takes { IfOk result (λ place. Both (Takes heap.old.limit n place heap.old.work
         heap.new.work) (S.image space.old) (S.image space.new)) }
+    ensures waits { IfOk result (λ place. IfTold (S.image space.old)
+        (TakesInRoom (range place n ∷ []) heap.old.work.heap heap.new.work.heap
+        (S.waiting space.old) (S.waiting space.new))) }
     ensures taken { IfOk result (λ place. heap_take heap.old.limit n heap.old.work.heap
         ≡ Ok (place, heap.new.work.heap)) }
     ensures near { IfOk result (λ place. place + n ≤ 2 ^ 44) }
@@ -59,6 +64,9 @@ pub fn take_table<S: Space>(
     requires within { parent.table.count ≤ parent.table.entries }
     ensures takes { IfOk result (λ table. Both (TakesTable heap.old.limit parent table
         heap.old.work heap.new.work) (S.image space.old) (S.image space.new)) }
+    ensures waits { IfOk result (λ table. IfTold (S.image space.old)
+        (TakesInRoom (table_room parent table) heap.old.work.heap heap.new.work.heap
+        (S.waiting space.old) (S.waiting space.new))) }
     ensures taken { IfOk result (λ table. HeapTakesTable heap.old.limit parent table
         heap.old.work.heap heap.new.work.heap) }
     ensures fits { IfOk result (FitsTable parent) }
@@ -93,6 +101,9 @@ pub(crate) fn take_rooms<S: Space>(
     requires short { chunk ≤ 4116 }
     ensures takes { IfOk result (λ rooms. Both (TakesRooms heap.old.limit (node_length wide) chunk
         parent rooms heap.old.work heap.new.work) (S.image space.old) (S.image space.new)) }
+    ensures waits { IfOk result (λ rooms. IfTold (S.image space.old)
+        (TakesInRoom (link_rooms (node_length wide) chunk parent rooms) heap.old.work.heap
+        heap.new.work.heap (S.waiting space.old) (S.waiting space.new))) }
     ensures near { IfOk result (AreRoomsNear (node_length wide) chunk parent) }
     ensures kept { KeepsHeap heap.old heap.new }
     ensures writes { AnswersWrite S.is_sound S.state S.waiting 27 OnlyReads

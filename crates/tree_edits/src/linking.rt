@@ -12,6 +12,7 @@ ghost use Rattle.cg_io.specs.Blocks.{Both};
 ghost use Rattle.tree_edits.specs.Rows.{AreNear, Means};
 ghost use Rattle.tree_edits.specs.Edits.{Does, Refuses, KeepsCore, memory_of};
 ghost use Rattle.tree_edits.specs.Listed.{ReadsTable, IsTableOf};
+ghost use Rattle.tree_edits.specs.Waiting.{Reaches};
 ghost use Rattle.tree_edits.specs.Linkable.{MayLink, IsLinkable, IsLinkRoomCause, IsLinkCause, LinksWithin, link_error};
 
 use crate::link_parts::put_link;
@@ -108,6 +109,9 @@ pub fn link<S: Space>(
         (λ bytes. (tree : Tree) × (p : Placement) × Means bytes tree p (memory_of core.old)) }
     ensures done { OnOk result (Both (Does (Edit.Link at name.now file.now path.now) core.old
         core.new) (S.image space.old) (S.image space.new)) }
+    ensures reached { OnOk result (IfSome (S.image space.old)
+        (Reaches (Edit.Link at name.now file.now path.now) core.old core.new
+        (S.waiting space.old) (S.waiting space.new))) }
     ensures serial { IfOk result (λ serial. serial ≡ length core.old.rows.items) }
     ensures allowed { OnOk result (IsLinkable core.old at name.now file.now path.now
         (S.image space.old)) }

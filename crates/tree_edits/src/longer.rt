@@ -8,8 +8,10 @@ ghost use Rattle.cg_io.specs.Blocks.{Both, blocks_of};
 ghost use Rattle.file_heap.specs.Heap.{IsThreaded, MayGive};
 ghost use Rattle.tree_edits.specs.Copies.{Copies, Clears};
 ghost use Rattle.tree_edits.specs.Taken.{IsReady, KeepsHeap, IsRoomless, LacksBytes};
-ghost use Rattle.tree_edits.specs.Joined.{OwnsTable, JoinsLonger, WritesTable, GivesTable, table_fields};
-ghost use Rattle.tree_edits.specs.Linked.{MayReplace, ReplacesTable};
+ghost use Rattle.tree_edits.specs.Joined.{OwnsTable, JoinsLonger, WritesTable, GivesTable, extents_of_table, table_fields};
+ghost use Rattle.field_access.specs.Fields.{WaitsWithin, range};
+ghost use Rattle.tree_edits.specs.Linked.{MayReplace, ReplacesTable, longer_length};
+ghost use Rattle.tree_edits.specs.Waiting.{WaitsInRoom, IfTold, parent_ranges};
 
 use crate::link_rooms::take_room;
 use crate::room::Parent;
@@ -43,6 +45,8 @@ fn copy_through<S: Space>(
     requires to { to + length piece.old ≤ 2 ^ 44 }
     ensures copied { OnOk result (Both (Copies from to (length piece.old)) (S.image space.old)
         (S.image space.new)) }
+    ensures waits { OnOk result (WaitsWithin (range to (length piece.old) ∷ [])
+        (S.waiting space.old) (S.waiting space.new)) }
     ensures writes { AnswersWrite S.is_sound S.state S.waiting (blocks_of to (length piece.old))
         OnlyReads (IsRefusal ⊥) space.old space.new result }
 {
@@ -61,6 +65,8 @@ fn copy_piece<S: Space>(space: &mut S, from: u64, to: u64, count: usize) -> Resu
     requires to { to + count ≤ 2 ^ 44 }
     ensures copied { OnOk result (Both (Copies from to count) (S.image space.old)
         (S.image space.new)) }
+    ensures waits { OnOk result (WaitsWithin (range to count ∷ []) (S.waiting space.old)
+        (S.waiting space.new)) }
     ensures writes { AnswersWrite S.is_sound S.state S.waiting (blocks_of to count) OnlyReads
         (IsRefusal ⊥) space.old space.new result }
 {
@@ -75,6 +81,8 @@ fn clear_piece<S: Space>(space: &mut S, at: u64, count: usize) -> Result<(), Adf
     requires within { at + count ≤ 2 ^ 44 }
     ensures cleared { OnOk result (Both (Clears at count) (S.image space.old)
         (S.image space.new)) }
+    ensures waits { OnOk result (WaitsWithin (range at count ∷ []) (S.waiting space.old)
+        (S.waiting space.new)) }
     ensures writes { AnswersWrite S.is_sound S.state S.waiting (blocks_of at count) OnlyReads
         (IsRefusal ⊥) space.old space.new result }
 {
@@ -89,6 +97,8 @@ fn copy_bytes<S: Space>(space: &mut S, from: u64, to: u64, count: u64) -> Result
     requires to { to + count ≤ 2 ^ 44 }
     ensures copied { OnOk result (Both (Copies from to count) (S.image space.old)
         (S.image space.new)) }
+    ensures waits { OnOk result (WaitsWithin (range to count ∷ []) (S.waiting space.old)
+        (S.waiting space.new)) }
     ensures writes { AnswersWrite S.is_sound S.state S.waiting (blocks_of to count) OnlyReads
         (IsRefusal ⊥) space.old space.new result }
 {
@@ -110,6 +120,8 @@ fn clear_bytes<S: Space>(space: &mut S, at: u64, count: u64) -> Result<(), AdfEr
     requires within { at + count ≤ 2 ^ 44 }
     ensures cleared { OnOk result (Both (Clears at count) (S.image space.old)
         (S.image space.new)) }
+    ensures waits { OnOk result (WaitsWithin (range at count ∷ []) (S.waiting space.old)
+        (S.waiting space.new)) }
     ensures writes { AnswersWrite S.is_sound S.state S.waiting (blocks_of at count) OnlyReads
         (IsRefusal ⊥) space.old space.new result }
 {
@@ -138,6 +150,8 @@ pub fn write_table<S: Space>(
     requires within { place + table_length (grown_entries old.count) ≤ 2 ^ 44 }
     ensures written { OnOk result (Both (WritesTable old place entry.now) (S.image space.old)
         (S.image space.new)) }
+    ensures waits { OnOk result (WaitsWithin (range place (table_length
+        (grown_entries old.count)) ∷ []) (S.waiting space.old) (S.waiting space.new)) }
     ensures writes { AnswersWrite S.is_sound S.state S.waiting
         (10 + table_length (grown_entries old.count) / 4096) OnlyReads
         (IsRefusal ⊥) space.old space.new result }
@@ -187,6 +201,9 @@ pub fn give_table<S: Space>(
         → MayGive table.place (table_length table.entries) heap.old.work.heap) }
     ensures given { OnOk result (Both (GivesTable table heap.old.work heap.new.work)
         (S.image space.old) (S.image space.new)) }
+    ensures waits { OnOk result (IfTold (S.image space.old)
+        (WaitsInRoom (extents_of_table table) heap.old.work.heap heap.new.work.heap
+        (S.waiting space.old) (S.waiting space.new))) }
     ensures kept { KeepsHeap heap.old heap.new }
     ensures writes { AnswersWrite S.is_sound S.state S.waiting 12 OnlyReads
         (IsRefusal (IsUntold (S.image space.old))) space.old space.new result }
@@ -236,6 +253,9 @@ pub(crate) fn replace_table<S: Space>(
     requires near { place + table_length (grown_entries parent.table.count) ≤ 2 ^ 44 }
     ensures replaced { OnOk result (Both (ReplacesTable parent place entry.now heap.old.work
         heap.new.work) (S.image space.old) (S.image space.new)) }
+    ensures waits { OnOk result (IfTold (S.image space.old)
+        (WaitsInRoom (range place (longer_length parent) ∷ parent_ranges parent)
+        heap.old.work.heap heap.new.work.heap (S.waiting space.old) (S.waiting space.new))) }
     ensures kept { KeepsHeap heap.old heap.new }
     ensures writes { AnswersWrite S.is_sound S.state S.waiting
         (24 + table_length (grown_entries parent.table.count) / 4096) OnlyReads
@@ -276,6 +296,8 @@ pub(crate) fn join_longer<S: Space>(
     requires full { parent.table.entries ≡ parent.table.count }
     ensures joined { OnOk result (Both (JoinsLonger heap.old.limit parent entry.now heap.old.work
         heap.new.work) (S.image space.old) (S.image space.new)) }
+    ensures waits { OnOk result (IfTold (S.image space.old) (WaitsInRoom (parent_ranges parent)
+        heap.old.work.heap heap.new.work.heap (S.waiting space.old) (S.waiting space.new))) }
     ensures kept { KeepsHeap heap.old heap.new }
     ensures writes { AnswersWrite S.is_sound S.state S.waiting
         (33 + table_length (grown_entries parent.table.count) / 4096) OnlyReads

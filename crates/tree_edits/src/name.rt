@@ -1,6 +1,6 @@
 //! Names of nodes: an edit in place.
 
-ghost use Rattle.std.specs.Prelude.{◌≡◌, ◌+◌, ◌^◌, ◌≤◌, IfErr, IfSome, OnOk};
+ghost use Rattle.std.specs.Prelude.{◌≡◌, ◌+◌, ◌^◌, ◌≤◌, [], ◌∷◌, IfErr, IfSome, OnOk};
 ghost use Rattle.adf_format.specs.declared.types.ExtentKind.{ExtentKind};
 ghost use Rattle.adf_format.specs.Pointer.{To};
 ghost use Rattle.adf_format.specs.Records.{entry_text};
@@ -11,6 +11,8 @@ ghost use Rattle.tree_laws.specs.MidEdit.{Puts};
 ghost use Rattle.tree_edits.specs.Rows.{AreNear};
 ghost use Rattle.tree_edits.specs.Edits.{Does, Refuses};
 ghost use Rattle.tree_edits.specs.Listed.{ReadsTable, is_another};
+ghost use Rattle.field_access.specs.Fields.{WaitsWithin, range};
+ghost use Rattle.tree_edits.specs.Waiting.{Reaches};
 ghost use Rattle.tree_edits.specs.Names.{IsNameCause, IsTableAbove, MayRename};
 
 use crate::listed::find_listed;
@@ -46,6 +48,8 @@ fn write_name<S: Space>(
     ensures written { OnOk result (Both (Then (Puts ExtentKind.Node (place + 4) 32 name.now)
         (Puts ExtentKind.SubNodes entry 44 (entry_text name.now (To place))))
         (S.image space.old) (S.image space.new)) }
+    ensures waits { OnOk result (WaitsWithin (range (place + 4) 32 ∷ range entry 44 ∷ [])
+        (S.waiting space.old) (S.waiting space.new)) }
     ensures writes { AnswersWrite S.is_sound S.state S.waiting 4 (ReadsFew 4) (IsRefusal ⊥)
         space.old space.new result }
 {
@@ -71,6 +75,9 @@ pub fn rename<S: Space>(
     requires near { AreNear core.now.wide core.now.rows.items }
     ensures done { OnOk result (Both (Does (Edit.Rename node name.now) core.now core.now)
         (S.image space.old) (S.image space.new)) }
+    ensures reached { OnOk result (IfSome (S.image space.old)
+        (Reaches (Edit.Rename node name.now) core.now core.now (S.waiting space.old)
+        (S.waiting space.new))) }
     ensures allowed { OnOk result (MayRename core.now node name.now (S.image space.old)) }
     ensures refused { IfErr result (λ e. IfSome (S.image space.old)
         (Refuses (Edit.Rename node name.now) core.now e)) }

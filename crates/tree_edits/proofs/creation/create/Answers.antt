@@ -1,4 +1,4 @@
-use Rattle.std.proofs.Common.{◌+◌, inl, inr, refl, sym, ap, subst, arith, Some}
+use Rattle.std.proofs.Common.{◌+◌, inl, inr, refl, sym, ap, subst, arith, Some, [], ◌∷◌, ◌++◌, List, ℕ, Option}
 use Rattle.std.specs.Prelude.{IfSome}
 use Rattle.cg_io.specs.Answers.{IsUntold}
 use Rattle.cg_io.proofs.ReadLaws.{few_only, only_then}
@@ -11,6 +11,12 @@ use Rattle.tree_edits.specs.Undo.{RowsState}
 use Rattle.tree_edits.specs.Taken.{IsReady, TakesText, LacksBytes, IsRoomless}
 use Rattle.tree_edits.proofs.CreateDone.{ready_held, own_held, done, refused_header, refused_join, header_cause, join_cause, room_is_cause, told_both, table_only, means_ready_held, its_table, made_in, long_enough}
 use Rattle.cg_io.specs.Waits.{how_many}
+use Rattle.field_access.specs.Fields.{range}
+use Rattle.tree_edits.proofs.WaitSteps.{told_both_then}
+use Rattle.tree_edits.proofs.Waiting.{taken_then, more_own}
+use Rattle.field_access.proofs.WaitLaws.{within_right}
+use Rattle.tree_edits.proofs.Reaching.{create_reached}
+use Rattle.tree_edits.specs.Waiting.{WaitsInRoom, TakesInRoom, IfTold, parent_ranges}
 use Rattle.tree_edits.proofs.creation.create.Goals as goal
 
 pub returns-in-Err-clause-writes : goal.returns-in-Err-clause-writes
@@ -115,3 +121,26 @@ returns-in-Err-add-clause-writes g c = (
     cause = (c.in-Ok.parent, c.in-Ok.ensures.room);
   },
 )
+
+pub returns-in-Ok-add-clause-reached : goal.returns-in-Ok-add-clause-reached
+returns-in-Ok-add-clause-reached g c =
+    let core = c.args.core.now in
+    let parent = c.in-Ok.parent in
+    let own = parent_ranges parent in
+    let header = range c.in-Ok-make_header.place (node_length core.wide) ∷ [] in
+    let a = core.heap.work.heap in
+    let b = c.make_header.new.heap.work.heap in
+    let d = c.join_child.new.heap.work.heap in
+    let held = g.S.ReadBytes.image c.args.space.now in
+    let w = g.S.ReadBytes.waiting c.args.space.now in
+    let x = g.S.ReadBytes.waiting c.find_room.new.space in
+    let y = g.S.ReadBytes.waiting c.make_header.new.space in
+    let z = g.S.ReadBytes.waiting c.join_child.new.space in
+    let Made = TakesText core.heap.limit (node_length core.wide) c.in-Ok-make_header.place (node_text (empty_node core.wide c.args.name.now c.args.label.now)) core.heap.work c.make_header.new.heap.work in
+    create_reached core c.args.at c.args.name.now c.args.label.now parent (record { heap = c.join_child.new.heap; rows = c.add.new.self; wide = core.wide; writable = core.writable }) held w z c.in-Ok.ensures.room
+    (subst (λ (blocks : List ℕ). IfTold held (WaitsInRoom own a d blocks z)) c.in-Ok.ensures.reads.waits
+    (told_both_then Made held (g.S.ReadBytes.image c.make_header.new.space) (TakesInRoom header a b x y) (WaitsInRoom own b d y z) (WaitsInRoom own a d x z)
+    (made_in Made held (g.S.ReadBytes.image c.find_room.new.space) (g.S.ReadBytes.image c.make_header.new.space) c.in-Ok.ensures.reads.bytes c.in-Ok-make_header.ensures.made)
+    (λ t u. taken_then header own a b d x y z t (more_own own (header ++ own) b d y z (within_right header own) u))
+    (subst (λ (o : Option (List ℕ)). IfTold o (TakesInRoom header a b x y)) c.in-Ok.ensures.reads.bytes c.in-Ok-make_header.ensures.waits)
+    c.in-Ok-join_child.ensures.waits))

@@ -5,6 +5,7 @@ use Rattle.tree_edits.proofs.Causes.{header_blocks, field_blocks, at_row, row_th
 use Rattle.tree_edits.specs.Causes.{SaysLink}
 use Rattle.tree_edits.specs.declared.rows.Row.{Row}
 use Rattle.cg_io.specs.Waits.{how_many}
+use Rattle.tree_edits.proofs.Reaching.{label_reached}
 use Rattle.tree_edits.proofs.label.set_label.Goals as goal
 
 pub returns-in-None-clause-refused : goal.returns-in-None-clause-refused
@@ -99,3 +100,10 @@ returns-clause-writes g c =
       cause = write_cause c.args.core.now c.args.node c.args.label.now (g.S.ReadBytes.image c.args.space.now) c.in-Some.row (sym c.get.ensures ∙ c.in-Some.is) c.write_field.result _ _ _
           c.in-Ok.ensures.reads.effect.faults c.write_field.ensures.writes.cause;
     }
+
+pub returns-clause-reached : goal.returns-clause-reached
+returns-clause-reached g c =
+    where_ok c.write_field.result _
+    (label_reached c.args.core.now c.args.node c.args.label.now c.in-Some.row (sym c.get.ensures ∙ c.in-Some.is) (g.S.ReadBytes.image c.args.space.now)
+    (g.S.ReadBytes.waiting c.args.space.now) (g.S.ReadBytes.waiting c.read_header.new.bytes) (g.S.ReadBytes.waiting c.write_field.new.space) (length c.name_field.result) c.in-Ok.ensures.reads.waits
+    (label_long c.args.label.now c.name_field.result c.name_field.ensures (sym c.is_label.ensures ∙ c.if-not-is_label.false)) c.write_field.ensures.only)

@@ -3,6 +3,7 @@ use Rattle.cg_io.proofs.ReadLaws.{only_then}
 use Rattle.tree_edits.specs.Left.{MovesUp}
 use Rattle.tree_edits.proofs.CopyLaws.{both_then, blocks_next, ends_next}
 use Rattle.tree_edits.proofs.Leaves.{moves_then}
+use Rattle.tree_edits.proofs.WaitSteps.{next_waits}
 use Rattle.tree_edits.proofs.leave.move_up.Goals as goal
 
 pub loop-done-preserved : goal.loop-done-preserved
@@ -16,4 +17,5 @@ loop-done-preserved g c =
       omega (arith, c.loop-done.invariant.3, c.in-Ok.ensures.writes.waits, blocks_next c.args.to done c.args.count n c.loop-done-test.true c.block_rest-length.ensures c.loop-done.invariant.5),
       only_then _ _ _ c.loop-done.invariant.4 c.in-Ok.ensures.writes.effect,
       inr (ends_next c.args.to done c.args.count n c.loop-done-test.true c.block_rest-length.ensures),
+      next_waits c.args.to done n (g.S.ReadBytes.waiting c.args.space.now) (g.S.ReadBytes.waiting c.loop-done.space) (g.S.ReadBytes.waiting c.move_piece.new.space) c.loop-done.invariant.6 c.in-Ok.ensures.waits,
     )

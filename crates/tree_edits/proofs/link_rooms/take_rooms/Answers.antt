@@ -1,4 +1,4 @@
-use Rattle.std.proofs.Common.{◌≡◌, ◌∙◌, inl, inr, subst, arith, Ok}
+use Rattle.std.proofs.Common.{◌≡◌, ◌∙◌, inl, inr, subst, arith, Ok, [], ◌∷◌, ◌++◌}
 use Rattle.cg_io.specs.Answers.{IsUntold}
 use Rattle.cg_io.specs.Blocks.{Both}
 use Rattle.cg_io.proofs.ReadLaws.{few_only, only_then}
@@ -11,6 +11,10 @@ use Rattle.tree_edits.specs.Linked.{HeapTakesTable, TakesTable, LacksRooms}
 use Rattle.tree_edits.proofs.CreateDone.{told_both}
 use Rattle.tree_edits.proofs.LinkPut.{roomless_behind}
 use Rattle.tree_edits.proofs.RoomsTaken.{rooms_held}
+use Rattle.field_access.specs.Fields.{range}
+use Rattle.tree_edits.proofs.WaitSteps.{told_both_then}
+use Rattle.tree_edits.proofs.Waiting.{takes_then}
+use Rattle.tree_edits.specs.Waiting.{TakesInRoom, IfTold, table_room}
 use Rattle.tree_edits.proofs.link_rooms.take_rooms.Goals as goal
 
 pub returns-in-Err-clause-writes : goal.returns-in-Err-clause-writes
@@ -81,3 +85,25 @@ returns-in-Ok-take_room-clause-writes g c = record {
   effect = only_then _ _ _ (only_then _ _ _ (few_only 64 _ _ c.in-Ok.ensures.writes.effect) (few_only 64 _ _ c.in-Ok-take_table.ensures.writes.effect)) (few_only 64 _ _ c.in-Ok-take_room.ensures.writes.effect);
   cause = tt;
 }
+
+pub returns-in-Ok-take_room-clause-waits : goal.returns-in-Ok-take_room-clause-waits
+returns-in-Ok-take_room-clause-waits g c =
+    let parent = c.args.parent in
+    let a = c.args.heap.now in
+    let b = c.take_room.new.heap in
+    let d = c.take_table.new.heap in
+    let e = c.take_room-2.new.heap in
+    let x = g.S.ReadBytes.waiting c.args.space.now in
+    let y = g.S.ReadBytes.waiting c.take_room.new.space in
+    let z = g.S.ReadBytes.waiting c.take_table.new.space in
+    let last = g.S.ReadBytes.waiting c.take_room-2.new.space in
+    let header = range c.in-Ok.place (node_length c.args.wide) ∷ [] in
+    let table = table_room parent c.in-Ok-take_table.table in
+    let chunk = range c.in-Ok-take_room.place c.args.chunk ∷ [] in
+    told_both_then (Takes a.limit c.node_length.result c.in-Ok.place a.work b.work) (g.S.ReadBytes.image c.args.space.now) (g.S.ReadBytes.image c.take_room.new.space)
+    (TakesInRoom header a.work.heap b.work.heap x y) (TakesInRoom (table ++ chunk) b.work.heap e.work.heap y last) (TakesInRoom (header ++ table ++ chunk) a.work.heap e.work.heap x last)
+    c.in-Ok.ensures.takes (λ s t. takes_then header (table ++ chunk) a.work.heap b.work.heap e.work.heap x y last s t)
+    (subst (λ n. IfTold (g.S.ReadBytes.image c.args.space.now) (TakesInRoom (range c.in-Ok.place n ∷ []) a.work.heap b.work.heap x y)) c.node_length.ensures c.in-Ok.ensures.waits)
+    (told_both_then (TakesTable b.limit parent c.in-Ok-take_table.table b.work d.work) (g.S.ReadBytes.image c.take_room.new.space) (g.S.ReadBytes.image c.take_table.new.space)
+    (TakesInRoom table b.work.heap d.work.heap y z) (TakesInRoom chunk d.work.heap e.work.heap z last) (TakesInRoom (table ++ chunk) b.work.heap e.work.heap y last)
+    c.in-Ok-take_table.ensures.takes (λ s t. takes_then table chunk b.work.heap d.work.heap e.work.heap y z last s t) c.in-Ok-take_table.ensures.waits c.in-Ok-take_room.ensures.waits)

@@ -16,6 +16,8 @@ use Rattle.tree_edits.proofs.CreateDone.{table_only, means_ready_held, its_table
 use Rattle.tree_edits.proofs.JoinedRows.{near_joined}
 use Rattle.tree_edits.proofs.LinkDone.{done, refused_put, put_cause, memory_is_cause, room_is_cause, owns_held}
 use Rattle.cg_io.specs.Waits.{how_many}
+use Rattle.tree_edits.proofs.Reaching.{link_reached}
+use Rattle.tree_edits.specs.Waiting.{WaitsInRoom, IfTold, parent_ranges}
 use Rattle.tree_edits.proofs.linking.link.Goals as goal
 
 pub returns-in-Err-clause-writes : goal.returns-in-Err-clause-writes
@@ -112,3 +114,15 @@ returns-clause-writes g c =
         cause = memory_is_cause c.args.core.now c.args.at c.args.name.now c.args.file.now c.args.path.now parent (g.S.ReadBytes.image c.args.space.now) c.in-Ok.ensures.room;
       },
     )
+
+pub returns-in-Ok-add-clause-reached : goal.returns-in-Ok-add-clause-reached
+returns-in-Ok-add-clause-reached g c =
+    let core = c.args.core.now in
+    let parent = c.in-Ok.room.parent in
+    let a = core.heap.work.heap in
+    let d = c.put_link.new.heap.work.heap in
+    let z = g.S.ReadBytes.waiting c.put_link.new.space in
+    link_reached core c.args.at c.args.name.now [] parent (record { heap = c.put_link.new.heap; rows = c.add.new.self; wide = core.wide; writable = core.writable }) c.args.file.now c.args.path.now (g.S.ReadBytes.image c.args.space.now)
+    (g.S.ReadBytes.waiting c.args.space.now) z c.in-Ok.ensures.room.room
+    (subst (λ (blocks : List ℕ). IfTold (g.S.ReadBytes.image c.args.space.now) (WaitsInRoom (parent_ranges parent) a d blocks z)) c.in-Ok.ensures.reads.waits
+    (subst (λ (o : Option (List ℕ)). IfTold o (WaitsInRoom (parent_ranges parent) a d (g.S.ReadBytes.waiting c.find_link_room.new.space) z)) c.in-Ok.ensures.reads.bytes c.in-Ok-put_link.ensures.waits))

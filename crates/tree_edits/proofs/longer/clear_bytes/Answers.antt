@@ -2,6 +2,7 @@ use Rattle.std.proofs.Common.{◌+◌, arith, inr}
 use Rattle.cg_io.proofs.ReadLaws.{only_then}
 use Rattle.tree_edits.specs.Copies.{Clears}
 use Rattle.tree_edits.proofs.CopyLaws.{both_then, clears_then, blocks_next, ends_next}
+use Rattle.tree_edits.proofs.WaitSteps.{next_waits}
 use Rattle.tree_edits.proofs.longer.clear_bytes.Goals as goal
 
 pub loop-done-preserved : goal.loop-done-preserved
@@ -15,4 +16,5 @@ loop-done-preserved g c =
       omega (arith, c.loop-done.invariant.3, c.in-Ok.ensures.writes.waits, blocks_next c.args.at done c.args.count n c.loop-done-test.true c.block_rest-length.ensures c.loop-done.invariant.5),
       only_then _ _ _ c.loop-done.invariant.4 c.in-Ok.ensures.writes.effect,
       inr (ends_next c.args.at done c.args.count n c.loop-done-test.true c.block_rest-length.ensures),
+      next_waits c.args.at done n (g.S.ReadBytes.waiting c.args.space.now) (g.S.ReadBytes.waiting c.loop-done.space) (g.S.ReadBytes.waiting c.clear_piece.new.space) c.loop-done.invariant.6 c.in-Ok.ensures.waits,
     )

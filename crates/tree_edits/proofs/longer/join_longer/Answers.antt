@@ -1,4 +1,4 @@
-use Rattle.std.proofs.Common.{◌≡◌, ◌+◌, ◌*◌, ◌/◌, arith, subst}
+use Rattle.std.proofs.Common.{◌≡◌, ◌+◌, ◌*◌, arith, subst, [], ◌∷◌, ◌++◌}
 use Rattle.adf_format.specs.HeapRule.{grown_entries}
 use Rattle.adf_format.specs.RecordFields.{table_length}
 use Rattle.cg_io.specs.Answers.{IsUntold}
@@ -9,6 +9,10 @@ use Rattle.tree_edits.specs.Taken.{Takes, LacksBytes, IsRoomless}
 use Rattle.tree_edits.proofs.CreateDone.{told_both}
 use Rattle.tree_edits.proofs.LinkPut.{refused_behind}
 use Rattle.tree_edits.proofs.LongerDone.{may_replace_held, joins_held}
+use Rattle.field_access.specs.Fields.{range}
+use Rattle.tree_edits.proofs.WaitSteps.{told_both_then}
+use Rattle.tree_edits.proofs.Waiting.{taken_then}
+use Rattle.tree_edits.specs.Waiting.{WaitsInRoom, TakesInRoom, IfTold, parent_ranges}
 use Rattle.tree_edits.proofs.longer.join_longer.Goals as goal
 
 pub returns-in-Err-clause-writes : goal.returns-in-Err-clause-writes
@@ -57,3 +61,21 @@ returns-in-Err-replace_table-clause-writes g c =
           (told_both (Takes heap.limit (20 + 44 * c.from.result) c.in-Ok.place heap.work c.take_room.new.heap.work) (g.S.ReadBytes.image c.args.space.now) (g.S.ReadBytes.image c.take_room.new.space) c.in-Ok.ensures.takes)
           _ (g.S.ReadBytes.state c.take_room.new.space).faults _ c.in-Err-replace_table.error one.faults c.in-Err-replace_table.ensures.writes.cause;
     }
+
+pub returns-in-Ok-replace_table-clause-waits : goal.returns-in-Ok-replace_table-clause-waits
+returns-in-Ok-replace_table-clause-waits g c =
+    let parent = c.args.parent in
+    let was = c.args.heap.now in
+    let mid = c.take_room.new.heap in
+    let now = c.replace_table.new.heap in
+    let x = g.S.ReadBytes.waiting c.args.space.now in
+    let y = g.S.ReadBytes.waiting c.take_room.new.space in
+    let z = g.S.ReadBytes.waiting c.replace_table.new.space in
+    let long : 20 + 44 * c.from.result ≡ longer_length parent = omega (arith, c.from.ensures, c.grown.ensures) in
+    let room = range c.in-Ok.place (longer_length parent) ∷ [] in
+    told_both_then (Takes was.limit (20 + 44 * c.from.result) c.in-Ok.place was.work mid.work) (g.S.ReadBytes.image c.args.space.now) (g.S.ReadBytes.image c.take_room.new.space)
+    (TakesInRoom room was.work.heap mid.work.heap x y) (WaitsInRoom (room ++ parent_ranges parent) mid.work.heap now.work.heap y z) (WaitsInRoom (parent_ranges parent) was.work.heap now.work.heap x z)
+    c.in-Ok.ensures.takes
+    (λ t w. taken_then room (parent_ranges parent) was.work.heap mid.work.heap now.work.heap x y z t w)
+    (subst (λ n. IfTold (g.S.ReadBytes.image c.args.space.now) (TakesInRoom (range c.in-Ok.place n ∷ []) was.work.heap mid.work.heap x y)) long c.in-Ok.ensures.waits)
+    c.in-Ok-replace_table.ensures.waits

@@ -1,6 +1,12 @@
-use Rattle.std.proofs.Common.{◌+◌, ◌*◌, ap, arith, length}
+use Rattle.std.proofs.Common.{◌+◌, ◌*◌, ap, arith, length, [], ◌∷◌}
 use Rattle.cg_io.proofs.ReadLaws.{few_only, only_then, refused_later, all_refused_later}
 use Rattle.tree_edits.proofs.TableWritten.{written_held, head_again, head_long, few_blocks, two_blocks, waits_three, waits_four}
+use Rattle.field_access.specs.Fields.{range}
+use Rattle.field_access.proofs.WaitLaws.{waits_none}
+use Rattle.tree_edits.proofs.Causes.{where_ok}
+use Rattle.tree_edits.proofs.WaitSteps.{part_waits}
+use Rattle.adf_format.specs.HeapRule.{grown_entries}
+use Rattle.adf_format.specs.RecordFields.{table_length}
 use Rattle.tree_edits.proofs.longer.write_table.Goals as goal
 
 pub returns-in-Err-write_field-clause-writes : goal.returns-in-Err-write_field-clause-writes
@@ -61,3 +67,22 @@ returns-clause-writes g c =
       effect = only_then _ _ _ effect (few_only _ _ _ c.write_field-3.ensures.writes.effect);
       cause = all_refused_later ⊥ ⊥ _ (g.S.ReadBytes.state c.clear_bytes.new.space).faults _ c.write_field-3.result effect.faults (λ x. x) c.write_field-3.ensures.writes.cause;
     }
+
+pub returns-clause-waits : goal.returns-clause-waits
+returns-clause-waits g c =
+    let place = c.args.place in
+    let all = table_length (grown_entries c.args.old.count) in
+    let entries = c.grown-entries.ensures in
+    let is_head = head_again c.encode_head-head.result _ c.from_place.result c.encode_head-head.ensures c.from_place.ensures in
+    let head = head_long c.encode_head-head.result _ is_head in
+    let last = ap length c.tail.ensures in
+    where_ok c.write_field-3.result _
+    (part_waits place all _ _ _ _ _
+    (part_waits place all _ _ _ _ _
+    (part_waits place all _ _ _ _ _
+    (part_waits place all _ _ _ _ _
+    (part_waits place all _ _ _ _ _ (waits_none (range place all ∷ []) (g.S.ReadBytes.waiting c.args.space.now)) c.in-Ok.ensures.only (omega arith) (omega (arith, head)))
+    c.in-Ok-copy_bytes.ensures.waits (omega arith) (omega (arith, c.from-used.ensures, entries)))
+    c.in-Ok-write_field.ensures.only (omega arith) (omega (arith, c.told-entry, c.from-used.ensures, entries)))
+    c.in-Ok-clear_bytes.ensures.waits (omega arith) (omega (arith, c.from-used.ensures, c.from.ensures, entries)))
+    c.write_field-3.ensures.only (omega arith) (omega (arith, last, c.from.ensures, entries)))

@@ -4,6 +4,8 @@ use Rattle.tree_edits.proofs.Causes.{where_ok}
 use Rattle.tree_edits.proofs.Renames.{refused_none, refused_read_only, refused_root, refused_name, refused_unlisted, refused_fault, refused_taken, refused_write, done}
 use Rattle.tree_edits.proofs.NameCauses.{unlisted_cause, looked, write_cause, once_read, twice_read, first_held}
 use Rattle.cg_io.specs.Waits.{how_many}
+use Rattle.tree_edits.proofs.Reaching.{name_reached}
+use Rattle.std.proofs.lemmas.Result.{on_ok_weaker}
 use Rattle.tree_edits.proofs.name.rename.Goals as goal
 
 pub returns-in-None-clause-refused : goal.returns-in-None-clause-refused
@@ -97,3 +99,10 @@ returns-clause-writes g c =
           (first_held c.args.name.now c.name_field-field.result c.in-Ok.listed.table c.in-Ok-find_entry.found held (g.S.ReadBytes.image c.find_listed.new.space) c.in-Ok.ensures.reads.bytes c.name_field-field.ensures c.in-Ok-find_entry.ensures.told)
           c.write_name.result (sym c.is_another.ensures ∙ c.if-is_another.false) _ _ _ (omega (arith, c.in-Ok.ensures.soon.faults, c.in-Ok-find_entry.ensures.reads.effect.faults)) c.write_name.ensures.writes.cause;
     }
+
+pub returns-clause-reached : goal.returns-clause-reached
+returns-clause-reached g c =
+    on_ok_weaker c.write_name.result
+    (λ w. name_reached c.args.core.now c.args.node c.args.name.now c.in-Some.row (sym c.get.ensures ∙ c.in-Some.is) c.in-Some-parent.parent c.in-Some-parent.is c.in-Ok.listed (g.S.ReadBytes.image c.args.space.now) c.in-Ok.ensures.listed
+    (g.S.ReadBytes.waiting c.args.space.now) (g.S.ReadBytes.waiting c.find_entry.new.bytes) (g.S.ReadBytes.waiting c.write_name.new.space) c.entry.result (c.in-Ok-find_entry.ensures.reads.waits ∙ c.in-Ok.ensures.reads.waits) c.entry.ensures w)
+    c.write_name.ensures.waits
