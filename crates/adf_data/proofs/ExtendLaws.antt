@@ -26,6 +26,7 @@ use Rattle.adf_model.specs.NodeData.{grown_range}
 use Rattle.adf_model.proofs.Writes.DataRoom.{cover-give_all}
 use Rattle.disk_ptr.specs.View.{view}
 use Rattle.file_heap.specs.Links.{range}
+use Rattle.field_access.specs.Fields.{IsWithin}
 use Rattle.file_heap.specs.Heap.{FreeSpace, IsThreaded, IsHeap, ChangesOnly, MovesEnd, KeepsFillers, IsTakenWithin, TakesCover}
 use Rattle.file_heap.proofs.ChangeLaws.{widened, changes_then}
 use Rattle.adf_data.specs.declared.place.DataPlace.{DataPlace}
@@ -395,12 +396,12 @@ module _ (es : List Extent) (h0 h1 h2 h3 : Heap) (n place : ℕ) (covers1 : Take
       let s = cover-append (heap_fields ++ es) (grown_range h0 h3 ∷ h0.gaps) b in let t = cover-append heap_fields es b in
       let r : cover (grown_range h0 h3 ∷ h0.gaps) b ≡ in_range (h0.end + 1) (h3.end - h0.end) b + cover h0.gaps b = refl in omega (arith, s, t, r)
 
-  first_call : (b : ℕ) → cover (changed_ranges es h0 h3) b ≡ 0 → cover (room_of h0 h1) b ≡ 0
+  pub first_call : IsWithin (room_of h0 h1) (changed_ranges es h0 h3)
   first_call b none =
       let a = all_by b in let p = parted b in
       let s = cover-append heap_fields (grown_range h0 h1 ∷ h0.gaps) b in let r : cover (grown_range h0 h1 ∷ h0.gaps) b ≡ in_range (h0.end + 1) (h1.end - h0.end) b + cover h0.gaps b = refl in omega (arith, none, a, p, s, r)
 
-  second_call : (b : ℕ) → cover (changed_ranges es h0 h3) b ≡ 0 → cover (room_of h1 h2) b ≡ 0
+  pub second_call : IsWithin (room_of h1 h2) (changed_ranges es h0 h3)
   second_call b none =
       let a = all_by b in let p = parted b in
       let s = cover-append heap_fields (grown_range h1 h2 ∷ h1.gaps) b in let r : cover (grown_range h1 h2 ∷ h1.gaps) b ≡ in_range (h1.end + 1) (h2.end - h1.end) b + cover h1.gaps b = refl in
@@ -411,14 +412,14 @@ module _ (es : List Extent) (h0 h1 h2 h3 : Heap) (n place : ℕ) (covers1 : Take
       changes_then (changed_ranges es h0 h3) a b c (widened (room_of h0 h1) (changed_ranges es h0 h3) a b first_call v) (widened (room_of h1 h2) (changed_ranges es h0 h3) b c second_call w)
 
   module _ (some rest : List Extent) (are : es ≡ some ++ rest) where
-    third_call : (m list : ℕ) → TakesCover m h1 h2 list → (b : ℕ) → cover (changed_ranges es h0 h3) b ≡ 0 → cover (heap_fields ++ some ++ h2.gaps) b ≡ 0
+    pub third_call : (m list : ℕ) → TakesCover m h1 h2 list → IsWithin (heap_fields ++ some ++ h2.gaps) (changed_ranges es h0 h3)
     third_call m list covers2 b none =
         let a = all_by b in let p = parted b in let u = ap (λ xs. cover xs b) are in let v = cover-append some rest b in
         let s = cover-append (heap_fields ++ some) h2.gaps b in let w = cover-append heap_fields some b in
         let t : in_range place n b + cover h1.gaps b ≡ in_range (h0.end + 1) (h1.end - h0.end) b + cover h0.gaps b = covers1 b in
         let x : in_range list m b + cover h2.gaps b ≡ in_range (h1.end + 1) (h2.end - h1.end) b + cover h1.gaps b = covers2 b in omega (arith, none, a, p, u, v, s, w, t, x)
 
-    last_call : (b : ℕ) → cover (changed_ranges es h0 h3) b ≡ 0 → cover rest b ≡ 0
+    pub last_call : IsWithin rest (changed_ranges es h0 h3)
     last_call b none = let a = all_by b in let u = ap (λ xs. cover xs b) are in let v = cover-append some rest b in omega (arith, none, a, u, v)
 
     pub three_calls : (m list : ℕ) → TakesCover m h1 h2 list → (a b c d : Option (List ℕ)) → Both (ChangesOnly (room_of h0 h1)) a b → Both (ChangesOnly (room_of h1 h2)) b c → Both (ChangesOnly (heap_fields ++ some ++ h2.gaps)) c d

@@ -18,6 +18,7 @@ use Rattle.adf_format.proofs.HeapLaws.{in_range}
 use Rattle.adf_format.proofs.HeapSteps.{cover-append}
 use Rattle.adf_model.specs.NodeData.{grown_range}
 use Rattle.disk_ptr.specs.View.{view}
+use Rattle.field_access.specs.Fields.{IsWithin}
 use Rattle.file_heap.specs.Links.{range}
 use Rattle.file_heap.specs.Heap.{FreeSpace, IsThreaded, IsHeap, ChangesOnly, MovesEnd, KeepsFillers, IsTakenWithin, TakesCover}
 use Rattle.file_heap.proofs.HeapFacts.{once}
@@ -153,27 +154,27 @@ module _ (limit : ℕ) (table : Option ℕ) (parts : List ChunkPart) (was size p
 -- ---- what changes, and why it is refused
 
 module _ (es : List Extent) (n place : ℕ) (h0 h1 h2 : Heap) (is : IsHeap h0) (covers : TakesCover n h0 h1 place) (same : h2.end ≡ h1.end) where
-  pub given_in_ranges : (old new : Option (List ℕ)) → Both (ChangesOnly (heap_fields ++ es ++ h1.gaps)) old new → Both (ChangesOnly (changed_ranges es h0 h2)) old new
-  given_in_ranges old new c = widened (heap_fields ++ es ++ h1.gaps) (changed_ranges es h0 h2) old new inside c
+  pub given_inside : IsWithin (heap_fields ++ es ++ h1.gaps) (changed_ranges es h0 h2)
+  given_inside b none =
+      let s = cover-append (heap_fields ++ es) (grown_range h0 h2 ∷ h0.gaps) b in let t = cover-append heap_fields es b in
+      let r : cover (grown_range h0 h2 ∷ h0.gaps) b ≡ in_range (h0.end + 1) (h2.end - h0.end) b + cover h0.gaps b = refl in
+      let g = grown in
+      let c : in_range place n b + cover h1.gaps b ≡ in_range (h0.end + 1) (h1.end - h0.end) b + cover h0.gaps b = covers b in
+      let u = cover-append (heap_fields ++ es) h1.gaps b in omega (arith, none, s, t, r, g, c, u)
     where
-      grown : (b : ℕ) → in_range (h0.end + 1) (h2.end - h0.end) b ≡ in_range (h0.end + 1) (h1.end - h0.end) b
-      grown b = ap (λ k. in_range (h0.end + 1) (k - h0.end) b) same
+      grown : in_range (h0.end + 1) (h2.end - h0.end) b ≡ in_range (h0.end + 1) (h1.end - h0.end) b
+      grown = ap (λ k. in_range (h0.end + 1) (k - h0.end) b) same
 
-      inside : (b : ℕ) → cover (changed_ranges es h0 h2) b ≡ 0 → cover (heap_fields ++ es ++ h1.gaps) b ≡ 0
-      inside b none =
-          let s = cover-append (heap_fields ++ es) (grown_range h0 h2 ∷ h0.gaps) b in let t = cover-append heap_fields es b in
-          let r : cover (grown_range h0 h2 ∷ h0.gaps) b ≡ in_range (h0.end + 1) (h2.end - h0.end) b + cover h0.gaps b = refl in
-          let g = grown b in
-          let c : in_range place n b + cover h1.gaps b ≡ in_range (h0.end + 1) (h1.end - h0.end) b + cover h0.gaps b = covers b in
-          let u = cover-append (heap_fields ++ es) h1.gaps b in omega (arith, none, s, t, r, g, c, u)
+  pub given_in_ranges : (old new : Option (List ℕ)) → Both (ChangesOnly (heap_fields ++ es ++ h1.gaps)) old new → Both (ChangesOnly (changed_ranges es h0 h2)) old new
+  given_in_ranges old new c = widened (heap_fields ++ es ++ h1.gaps) (changed_ranges es h0 h2) old new given_inside c
+
+pub room_inside : (es : List Extent) (h0 h2 : Heap) → IsWithin (room_of h0 h2) (changed_ranges es h0 h2)
+room_inside es h0 h2 b none =
+    let s = cover-append (heap_fields ++ es) (grown_range h0 h2 ∷ h0.gaps) b in let t = cover-append heap_fields es b in
+    let u = cover-append heap_fields (grown_range h0 h2 ∷ h0.gaps) b in omega (arith, none, s, t, u)
 
 pub room_in_ranges : (es : List Extent) (h0 h2 : Heap) (old new : Option (List ℕ)) → Both (ChangesOnly (room_of h0 h2)) old new → Both (ChangesOnly (changed_ranges es h0 h2)) old new
-room_in_ranges es h0 h2 old new c = widened (room_of h0 h2) (changed_ranges es h0 h2) old new inside c
-  where
-    inside : (b : ℕ) → cover (changed_ranges es h0 h2) b ≡ 0 → cover (room_of h0 h2) b ≡ 0
-    inside b none =
-        let s = cover-append (heap_fields ++ es) (grown_range h0 h2 ∷ h0.gaps) b in let t = cover-append heap_fields es b in
-        let u = cover-append heap_fields (grown_range h0 h2 ∷ h0.gaps) b in omega (arith, none, s, t, u)
+room_in_ranges es h0 h2 old new c = widened (room_of h0 h2) (changed_ranges es h0 h2) old new (room_inside es h0 h2) c
 
 pub gathered_bytes : (es : List Extent) (n place : ℕ) (h0 h1 h2 : Heap) (a c d : Option (List ℕ)) → IsHeap h0 → TakesCover n h0 h1 place → h2.end ≡ h1.end → Both (ChangesOnly (room_of h0 h1)) a c → Both (ChangesOnly (heap_fields ++ es ++ h1.gaps)) c d
     → Both (ChangesOnly (changed_ranges es h0 h2)) a d

@@ -14,6 +14,7 @@ use Rattle.adf_format.specs.HeapRule.{heap_give, give_all}
 use Rattle.adf_format.proofs.HeapLaws.{in_range, cover-give_joined}
 use Rattle.adf_format.proofs.HeapSteps.{cover-append}
 use Rattle.adf_data.specs.declared.chunks.Chunk.{Chunk}
+use Rattle.field_access.specs.Fields.{IsWithin}
 use Rattle.file_heap.specs.Links.{range}
 use Rattle.file_heap.specs.Heap.{MayGive, ChangesOnly}
 use Rattle.cg_io.specs.Answers.{IsUntold}
@@ -87,23 +88,22 @@ cover_next chunks i b c lt is =
 
 -- ---- what changes, and why a gift is refused
 
+pub next_inside : (chunks : List Chunk) (i : ℕ) (c : Chunk) (first heap : Heap) → i < length chunks → part_of c ≡ part_at (parts_of chunks) i → ((b : ℕ) → cover heap.gaps b ≡ cover (take i (chunk_extents (parts_of chunks))) b + cover first.gaps b)
+    → IsWithin (heap_fields ++ range c.place c.length ∷ heap.gaps) (heap_fields ++ chunk_extents (parts_of chunks) ++ first.gaps)
+next_inside chunks i c first heap lt is covers b none =
+    let x = cover-append heap_fields (chunk_extents (parts_of chunks)) b in
+    let y = cover-append (heap_fields ++ chunk_extents (parts_of chunks)) first.gaps b in
+    let z = cover-append heap_fields (range c.place c.length ∷ heap.gaps) b in
+    let n = cover_next chunks i b c lt is in
+    let f = covers b in
+    let r : cover (range c.place c.length ∷ heap.gaps) b ≡ in_range c.place c.length b + cover heap.gaps b = refl in
+    omega (arith, none, x, y, z, n, f, r)
+
 pub bytes_more : (chunks : List Chunk) (i : ℕ) (c : Chunk) (first heap : Heap) (old middle new : Option (List ℕ)) → i < length chunks → part_of c ≡ part_at (parts_of chunks) i → ((b : ℕ) → cover heap.gaps b ≡ cover (take i (chunk_extents (parts_of chunks))) b + cover first.gaps b)
     → Both (ChangesOnly (heap_fields ++ chunk_extents (parts_of chunks) ++ first.gaps)) old middle → Both (ChangesOnly (heap_fields ++ range c.place c.length ∷ heap.gaps)) middle new → Both (ChangesOnly (heap_fields ++ chunk_extents (parts_of chunks) ++ first.gaps)) old new
 bytes_more chunks i c first heap old middle new lt is covers v w =
-    changes_then (heap_fields ++ chunk_extents (parts_of chunks) ++ first.gaps) old middle new v (widened (heap_fields ++ range c.place c.length ∷ heap.gaps) (heap_fields ++ chunk_extents (parts_of chunks) ++ first.gaps) middle new within w)
-  where
-    es : List Extent
-    es = chunk_extents (parts_of chunks)
-
-    within : (b : ℕ) → cover (heap_fields ++ chunk_extents (parts_of chunks) ++ first.gaps) b ≡ 0 → cover (heap_fields ++ range c.place c.length ∷ heap.gaps) b ≡ 0
-    within b none =
-        let x = cover-append heap_fields (chunk_extents (parts_of chunks)) b in
-        let y = cover-append (heap_fields ++ chunk_extents (parts_of chunks)) first.gaps b in
-        let z = cover-append heap_fields (range c.place c.length ∷ heap.gaps) b in
-        let n = cover_next chunks i b c lt is in
-        let f = covers b in
-        let r : cover (range c.place c.length ∷ heap.gaps) b ≡ in_range c.place c.length b + cover heap.gaps b = refl in
-        omega (arith, none, x, y, z, n, f, r)
+    changes_then (heap_fields ++ chunk_extents (parts_of chunks) ++ first.gaps) old middle new v
+    (widened (heap_fields ++ range c.place c.length ∷ heap.gaps) (heap_fields ++ chunk_extents (parts_of chunks) ++ first.gaps) middle new (next_inside chunks i c first heap lt is covers) w)
 
 pub untold_before : (ranges : List Extent) (old new : Option (List ℕ)) → Both (ChangesOnly ranges) old new → IsUntold new → IsUntold old
 untold_before ranges None new c u = tt

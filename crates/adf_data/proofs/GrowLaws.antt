@@ -33,7 +33,7 @@ use Rattle.adf_data.specs.Ranges.{AreIn, byte_place}
 use Rattle.adf_data.specs.Fills.{IsBeside, MakesChunk}
 use Rattle.adf_data.specs.Growing.{entry_of, room_of, AreClear, PutsChunk, PutsTable}
 use Rattle.adf_data.proofs.PayloadLaws.{payloads_at, length-payloads, still_in}
-use Rattle.adf_data.proofs.RoomLaws.{in_room, out_of_range}
+use Rattle.adf_data.proofs.RoomLaws.{gaps_inside, in_room, out_of_range}
 
 -- payloads stay where no byte of theirs changes
 pub payloads_clear : (parts : List ChunkPart) (ranges : List Extent) (old new : List ℕ) → ChangesOnly ranges old new → AreClear parts ranges → AreIn parts old → payloads new parts ≡ payloads old parts
@@ -58,18 +58,12 @@ module _ (parts : List ChunkPart) (kept n place : ℕ) (before after : Heap) (is
       let a : cover (range place n ∷ []) (byte_place parts j) ≡ in_range place n (byte_place parts j) + 0 = refl in
       out_of_range place n (byte_place parts j) (omega (arith, none, a))
 
-  narrow : (b : ℕ) → cover (room_of before after) b ≡ 0 → cover (heap_fields ++ before.gaps) b ≡ 0
-  narrow b none =
-      let s = cover-append heap_fields (grown_range before after ∷ before.gaps) b in
-      let g : cover (grown_range before after ∷ before.gaps) b ≡ in_range (before.end + 1) (after.end - before.end) b + cover before.gaps b = refl in
-      let t = cover-append heap_fields before.gaps b in omega (arith, none, s, g, t)
-
   put_made : (a b c : List ℕ) → ChangesOnly (heap_fields ++ before.gaps) a b → MakesChunk parts kept n place b c → PutsChunk parts kept n place before after a c
   put_made a b c takes makes = record {
     spells = makes.spells;
     body = λ clear all.
         makes.body (beside clear) (still_in parts a b takes.longer all)
-        ∙ ap (λ xs. take kept xs ++ replicate (n - 20 - kept) 0) (payloads_clear parts (heap_fields ++ before.gaps) a b takes (λ j lt. narrow (byte_place parts j) (clear j lt)) all);
+        ∙ ap (λ xs. take kept xs ++ replicate (n - 20 - kept) 0) (payloads_clear parts (heap_fields ++ before.gaps) a b takes (λ j lt. gaps_inside before after (byte_place parts j) (clear j lt)) all);
   }
 
   pub all_put : (a b c : Option (List ℕ)) → Both (ChangesOnly (heap_fields ++ before.gaps)) a b → Both (MakesChunk parts kept n place) b c → Both (PutsChunk parts kept n place before after) a c

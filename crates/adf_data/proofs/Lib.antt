@@ -22,3 +22,4 @@ pub mod SizeLaws
 pub mod BlockLaws
 pub mod WholeLaws
 pub mod PartLaws
+pub mod WaitLaws

@@ -12,6 +12,7 @@ use Rattle.adf_format.specs.Changes.{heap_fields}
 use Rattle.adf_format.specs.HeapRule.{heap_give, give_all, data_extents}
 use Rattle.adf_format.proofs.HeapLaws.{in_range}
 use Rattle.adf_format.proofs.HeapSteps.{cover-append}
+use Rattle.field_access.specs.Fields.{IsWithin}
 use Rattle.file_heap.specs.Links.{range}
 use Rattle.file_heap.specs.Heap.{MayGive, ChangesOnly}
 use Rattle.cg_io.specs.Answers.{IsRefusal, IsUntold}
@@ -67,22 +68,23 @@ may_second xs ys heap may = record {
     back [] ys all = all
     back (x ∷ xs) ys all = back xs ys all.1
 
+pub first_inside : (xs ys gaps : List Extent) → IsWithin (heap_fields ++ xs ++ gaps) (heap_fields ++ (xs ++ ys) ++ gaps)
+first_inside xs ys gaps b none =
+    let p = cover-append (heap_fields ++ (xs ++ ys)) gaps b in let q = cover-append heap_fields (xs ++ ys) b in let r = cover-append xs ys b in
+    let s = cover-append (heap_fields ++ xs) gaps b in let t = cover-append heap_fields xs b in omega (arith, none, p, q, r, s, t)
+
+pub second_inside : (xs ys : List Extent) (heap : Heap) → IsWithin (heap_fields ++ ys ++ (give_all xs heap).gaps) (heap_fields ++ (xs ++ ys) ++ heap.gaps)
+second_inside xs ys heap b none =
+    let p = cover-append (heap_fields ++ (xs ++ ys)) heap.gaps b in let q = cover-append heap_fields (xs ++ ys) b in let r = cover-append xs ys b in
+    let s = cover-append (heap_fields ++ ys) (give_all xs heap).gaps b in let t = cover-append heap_fields ys b in let u = cover-give_all xs heap b in omega (arith, none, p, q, r, s, t, u)
+
 pub first_bytes : (xs ys gaps : List Extent) (old new : Option (List ℕ)) → Both (ChangesOnly (heap_fields ++ xs ++ gaps)) old new → Both (ChangesOnly (heap_fields ++ (xs ++ ys) ++ gaps)) old new
-first_bytes xs ys gaps old new c = widened (heap_fields ++ xs ++ gaps) (heap_fields ++ (xs ++ ys) ++ gaps) old new within c
-  where
-    within : (b : ℕ) → cover (heap_fields ++ (xs ++ ys) ++ gaps) b ≡ 0 → cover (heap_fields ++ xs ++ gaps) b ≡ 0
-    within b none =
-        let p = cover-append (heap_fields ++ (xs ++ ys)) gaps b in let q = cover-append heap_fields (xs ++ ys) b in let r = cover-append xs ys b in
-        let s = cover-append (heap_fields ++ xs) gaps b in let t = cover-append heap_fields xs b in omega (arith, none, p, q, r, s, t)
+first_bytes xs ys gaps old new c = widened (heap_fields ++ xs ++ gaps) (heap_fields ++ (xs ++ ys) ++ gaps) old new (first_inside xs ys gaps) c
 
 pub both_bytes : (xs ys : List Extent) (heap : Heap) (old middle new : Option (List ℕ)) → Both (ChangesOnly (heap_fields ++ xs ++ heap.gaps)) old middle → Both (ChangesOnly (heap_fields ++ ys ++ (give_all xs heap).gaps)) middle new → Both (ChangesOnly (heap_fields ++ (xs ++ ys) ++ heap.gaps)) old new
 both_bytes xs ys heap old middle new v w =
-    changes_then (heap_fields ++ (xs ++ ys) ++ heap.gaps) old middle new (first_bytes xs ys heap.gaps old middle v) (widened (heap_fields ++ ys ++ (give_all xs heap).gaps) (heap_fields ++ (xs ++ ys) ++ heap.gaps) middle new within w)
-  where
-    within : (b : ℕ) → cover (heap_fields ++ (xs ++ ys) ++ heap.gaps) b ≡ 0 → cover (heap_fields ++ ys ++ (give_all xs heap).gaps) b ≡ 0
-    within b none =
-        let p = cover-append (heap_fields ++ (xs ++ ys)) heap.gaps b in let q = cover-append heap_fields (xs ++ ys) b in let r = cover-append xs ys b in
-        let s = cover-append (heap_fields ++ ys) (give_all xs heap).gaps b in let t = cover-append heap_fields ys b in let u = cover-give_all xs heap b in omega (arith, none, p, q, r, s, t, u)
+    changes_then (heap_fields ++ (xs ++ ys) ++ heap.gaps) old middle new (first_bytes xs ys heap.gaps old middle v)
+    (widened (heap_fields ++ ys ++ (give_all xs heap).gaps) (heap_fields ++ (xs ++ ys) ++ heap.gaps) middle new (second_inside xs ys heap) w)
 
 -- ---- the table and the chunks
 

@@ -17,6 +17,7 @@ use Rattle.file_heap.specs.Heap.{FreeSpace, IsThreaded, IsHeap, ChangesOnly, Mov
 use Rattle.file_heap.specs.Beside.{AreBeside}
 use Rattle.file_heap.proofs.HeapFacts.{once}
 use Rattle.file_heap.proofs.Ranges.{cover_kinds}
+use Rattle.field_access.specs.Fields.{IsWithin}
 use Rattle.field_access.proofs.WriteLaws.{all_changed}
 use Rattle.file_heap.proofs.ChangeLaws.{widened, changes_then}
 use Rattle.file_heap.proofs.Beside.{all_lists_stay, ends_stay, all_fillers_stay}
@@ -68,14 +69,15 @@ out_of_range p n b none = elim (cases_lt b p) [
     clash : p ≤ b → b < p + n → ⊥
     clash le lt = let h = within_range p n b le lt in omega (arith, h, none)
 
+-- the fields of the heap and its gaps lie in the room of the heap
+pub gaps_inside : (before after : Heap) → IsWithin (heap_fields ++ before.gaps) (room_of before after)
+gaps_inside before after b none =
+    let s = cover-append heap_fields (grown_range before after ∷ before.gaps) b in
+    let g : cover (grown_range before after ∷ before.gaps) b ≡ in_range (before.end + 1) (after.end - before.end) b + cover before.gaps b = refl in
+    let t = cover-append heap_fields before.gaps b in omega (arith, none, s, g, t)
+
 pub taken_in_room : (before after : Heap) (old new : Option (List ℕ)) → Both (ChangesOnly (heap_fields ++ before.gaps)) old new → Both (ChangesOnly (room_of before after)) old new
-taken_in_room before after old new c = widened (heap_fields ++ before.gaps) (room_of before after) old new within c
-  where
-    within : (b : ℕ) → cover (room_of before after) b ≡ 0 → cover (heap_fields ++ before.gaps) b ≡ 0
-    within b none =
-        let s = cover-append heap_fields (grown_range before after ∷ before.gaps) b in
-        let g : cover (grown_range before after ∷ before.gaps) b ≡ in_range (before.end + 1) (after.end - before.end) b + cover before.gaps b = refl in
-        let t = cover-append heap_fields before.gaps b in omega (arith, none, s, g, t)
+taken_in_room before after old new c = widened (heap_fields ++ before.gaps) (room_of before after) old new (gaps_inside before after) c
 
 -- ---- a range that was taken
 
@@ -110,7 +112,7 @@ module _ (n place : ℕ) (before after : Heap) (is : IsHeap before) (covers : Ta
     chunks = λ b some. beside_chunks b (let k = cover_kinds b after.gaps in omega (arith, k, some));
   }
 
-  pub in_room : (b : ℕ) → cover (room_of before after) b ≡ 0 → cover (range place n ∷ []) b ≡ 0
+  pub in_room : IsWithin (range place n ∷ []) (room_of before after)
   in_room b none =
       let s = cover-append heap_fields (grown_range before after ∷ before.gaps) b in
       let g : cover (grown_range before after ∷ before.gaps) b ≡ in_range (before.end + 1) (after.end - before.end) b + cover before.gaps b = refl in

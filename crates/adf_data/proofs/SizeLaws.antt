@@ -23,6 +23,7 @@ use Rattle.disk_ptr.specs.View.{view}
 use Rattle.adf_data.specs.declared.place.DataPlace.{DataPlace}
 use Rattle.adf_data.specs.declared.chunks.Chunk.{Chunk}
 use Rattle.adf_data.specs.Chunks.{parts_of, AreNamed, Named}
+use Rattle.field_access.specs.Fields.{IsWithin}
 use Rattle.file_heap.specs.Heap.{FreeSpace, IsThreaded, ChangesOnly}
 use Rattle.file_heap.proofs.ChangeLaws.{widened}
 use Rattle.adf_data.specs.Ranges.{AreIn, ChangesBytes}
@@ -268,6 +269,12 @@ owns_enough at was parts bytes heap (Some image) own = (own_ready at was parts b
 
 -- ---- the chunks that were read
 
+-- the chunks lie in what may change beside them
+pub chunks_inside : (table : Option ℕ) (parts : List ChunkPart) (before after : Heap) → IsWithin (chunk_extents parts) (changed_ranges (extents_in table parts) before after)
+chunks_inside table parts before after b none =
+    let s = cover-append (heap_fields ++ extents_in table parts) (grown_range before after ∷ before.gaps) b in let t = cover-append heap_fields (extents_in table parts) b in
+    let u = cover-append (chunk_table_extents table (length parts)) (chunk_extents parts) b in omega (arith, none, s, t, u)
+
 module _ (at : DataPlace) (chunks : List Chunk) (table : Option ℕ) (first read : Option (List ℕ)) (same : read ≡ first)
     (says : (parts : NodeParts) → Named at parts first → parts_of chunks ≡ parts.chunks) (tells : (parts : NodeParts) → Named at parts first → table ≡ parts.chunk_table) (was : ℕ) (heap : Heap) where
   -- fewer bytes than the data have
@@ -290,12 +297,7 @@ module _ (at : DataPlace) (chunks : List Chunk) (table : Option ℕ) (first read
 
   pub cleared_bytes : (size : ℕ) (new : Option (List ℕ)) → was + (size - was) ≤ payload_length (parts_of chunks) → Both (ChangesBytes (parts_of chunks) was (size - was)) read new → Both (ChangesOnly (changed_ranges (extents_in table (parts_of chunks)) heap heap)) read new
   cleared_bytes size new within c =
-      widened (chunk_extents (parts_of chunks)) (changed_ranges (extents_in table (parts_of chunks)) heap heap) read new inside (all_changes_chunks (parts_of chunks) was (size - was) read new within c)
-    where
-      inside : (b : ℕ) → cover (changed_ranges (extents_in table (parts_of chunks)) heap heap) b ≡ 0 → cover (chunk_extents (parts_of chunks)) b ≡ 0
-      inside b none =
-          let s = cover-append (heap_fields ++ extents_in table (parts_of chunks)) (grown_range heap heap ∷ heap.gaps) b in let t = cover-append heap_fields (extents_in table (parts_of chunks)) b in
-          let u = cover-append (chunk_table_extents table (length (parts_of chunks))) (chunk_extents (parts_of chunks)) b in omega (arith, none, s, t, u)
+      widened (chunk_extents (parts_of chunks)) (changed_ranges (extents_in table (parts_of chunks)) heap heap) read new (chunks_inside table (parts_of chunks) heap heap) (all_changes_chunks (parts_of chunks) was (size - was) read new within c)
 
   resizes : (limit size : ℕ) (now : DataPlace) (later : FreeSpace) (old new : List ℕ) → first ≡ Some old → GrowsData limit table (parts_of chunks) was size now heap later old new → ResizesData limit was size at now heap later old new
   resizes limit size now later old new is grows parts bytes own = (

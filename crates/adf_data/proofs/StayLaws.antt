@@ -243,7 +243,7 @@ elements_written at chunks element runs given old middle new e says w = go old n
 payload_here : (c : ChunkPart) (k : ℕ) → k < c.length - 20 → holds_byte (extent ExtentKind.DataChunk (c.place + 16) (c.length - 20)) (c.place + 16 + k) ≡ true
 payload_here c k lt = grind (arith, nat_tests)
 
-payload_covered : (cs : List ChunkPart) (k : ℕ) → k < payload_length cs → 1 ≤ cover (payload_extents cs) (byte_place cs k)
+pub payload_covered : (cs : List ChunkPart) (k : ℕ) → k < payload_length cs → 1 ≤ cover (payload_extents cs) (byte_place cs k)
 payload_covered [] k lt = absurd (omega (arith, lt))
 payload_covered (c ∷ cs) k lt = elim (cases_lt k (c.length - 20)) [
   | inl low ↦ (let t = is_in c k low in let h = payload_here c k low in rw (t, h) (omega arith))

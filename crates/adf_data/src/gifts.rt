@@ -7,6 +7,7 @@ ghost use Rattle.cg_io.specs.Answers.{OnlyReads, IsRefusal};
 ghost use Rattle.cg_io.specs.Waits.{how_many};
 ghost use Rattle.adf_format.specs.Placement.{chunk_extents, chunk_table_extents};
 ghost use Rattle.adf_format.specs.Changes.{heap_fields};
+ghost use Rattle.field_access.specs.Fields.{WaitsWhereTold};
 ghost use Rattle.adf_format.specs.HeapRule.{give_all, pairs};
 ghost use Rattle.file_heap.specs.Heap.{IsHeap, IsThreaded, ChangesOnly, MovesEnd, KeepsFillers};
 ghost use Rattle.adf_data.specs.Chunks.{parts_of, IsSane};
@@ -36,6 +37,9 @@ fn give_chunks<S: Space>(heap: &mut Heap, space: &mut S, chunks: &[Chunk]) -> Re
     ensures threads { OnOk result (IfSome (S.image space.new) (IsThreaded heap.new.work)) }
     ensures bytes { Both (ChangesOnly (heap_fields ++ chunk_extents (parts_of chunks.now)
         ++ heap.old.work.heap.gaps)) (S.image space.old) (S.image space.new) }
+    ensures only { WaitsWhereTold (S.image space.old) (heap_fields
+        ++ chunk_extents (parts_of chunks.now) ++ heap.old.work.heap.gaps)
+        (S.waiting space.old) (S.waiting space.new) }
     ensures end { OnOk result (Both (MovesEnd heap.old.work.heap.end heap.new.work.heap.end)
         (S.image space.old) (S.image space.new)) }
     ensures fillers { OnOk result (Both
@@ -81,6 +85,9 @@ pub(crate) fn give_table<S: Space>(
     ensures threads { OnOk result (IfSome (S.image space.new) (IsThreaded heap.new.work)) }
     ensures bytes { Both (ChangesOnly (heap_fields ++ chunk_table_extents table count
         ++ heap.old.work.heap.gaps)) (S.image space.old) (S.image space.new) }
+    ensures only { WaitsWhereTold (S.image space.old) (heap_fields
+        ++ chunk_table_extents table count ++ heap.old.work.heap.gaps)
+        (S.waiting space.old) (S.waiting space.new) }
     ensures end { OnOk result (Both (MovesEnd heap.old.work.heap.end heap.new.work.heap.end)
         (S.image space.old) (S.image space.new)) }
     ensures fillers { OnOk result (Both
@@ -122,6 +129,9 @@ pub(crate) fn give_data<S: Space>(
     ensures threads { OnOk result (IfSome (S.image space.new) (IsThreaded heap.new.work)) }
     ensures bytes { Both (ChangesOnly (heap_fields ++ extents_in table (parts_of chunks.now)
         ++ heap.old.work.heap.gaps)) (S.image space.old) (S.image space.new) }
+    ensures only { WaitsWhereTold (S.image space.old) (heap_fields
+        ++ extents_in table (parts_of chunks.now) ++ heap.old.work.heap.gaps)
+        (S.waiting space.old) (S.waiting space.new) }
     ensures end { OnOk result (Both (MovesEnd heap.old.work.heap.end heap.new.work.heap.end)
         (S.image space.old) (S.image space.new)) }
     ensures fillers { OnOk result (Both

@@ -7,6 +7,7 @@ ghost use Rattle.cg_io.specs.Answers.{OnlyReads, IsUntold};
 ghost use Rattle.cg_io.specs.Waits.{how_many};
 ghost use Rattle.adf_format.specs.Placement.{Heap, chunk_table_extents};
 ghost use Rattle.adf_format.specs.Changes.{heap_fields};
+ghost use Rattle.field_access.specs.Fields.{WaitsWhereTold};
 ghost use Rattle.adf_format.specs.HeapRule.{LimitReached, heap_take, give_all, payload_length, chunk_length_for, pairs};
 ghost use Rattle.adf_model.specs.declared.error.AdfError.{AdfError};
 ghost use Rattle.file_heap.specs.Heap.{IsHeap, IsThreaded, IsTakeRefusal, ChangesOnly, MovesEnd, KeepsFillers, IsTakenWithin, TakesCover};
@@ -73,6 +74,8 @@ pub(crate) fn put_chunk<S: Space>(
     ensures bytes { Both (ChangesOnly (room_of heap.old.work.heap heap.new.work.heap))
         (S.image space.old)
         (S.image space.new) }
+    ensures only { WaitsWhereTold (S.image space.old)
+        (room_of heap.old.work.heap heap.new.work.heap) (S.waiting space.old) (S.waiting space.new) }
     ensures end { OnOk result (Both (MovesEnd heap.old.work.heap.end heap.new.work.heap.end)
         (S.image space.old) (S.image space.new)) }
     ensures fillers { OnOk result (Both
@@ -129,6 +132,8 @@ pub(crate) fn put_table<S: Space>(
     ensures bytes { Both (ChangesOnly (room_of heap.old.work.heap heap.new.work.heap))
         (S.image space.old)
         (S.image space.new) }
+    ensures only { WaitsWhereTold (S.image space.old)
+        (room_of heap.old.work.heap heap.new.work.heap) (S.waiting space.old) (S.waiting space.new) }
     ensures end { OnOk result (Both (MovesEnd heap.old.work.heap.end heap.new.work.heap.end)
         (S.image space.old) (S.image space.new)) }
     ensures fillers { OnOk result (Both
@@ -187,6 +192,9 @@ fn gather<S: Space>(
         (extents_in table (parts_of chunks.now)) heap.old.work.heap heap.new.work.heap))
         (S.image space.old)
         (S.image space.new) }
+    ensures only { WaitsWhereTold (S.image space.old) (changed_ranges
+        (extents_in table (parts_of chunks.now)) heap.old.work.heap heap.new.work.heap)
+        (S.waiting space.old) (S.waiting space.new) }
     ensures effect { OnlyReads (S.state space.old) (S.state space.new) }
     ensures waits { OnOk result (how_many (S.waiting space.new)
         ≤ how_many (S.waiting space.old) + (new / 4096 + 24 + 12 * length chunks.now)) }
@@ -247,6 +255,9 @@ fn extend<S: Space>(
         (extents_in table (parts_of chunks.now)) heap.old.work.heap heap.new.work.heap))
         (S.image space.old)
         (S.image space.new) }
+    ensures only { WaitsWhereTold (S.image space.old) (changed_ranges
+        (extents_in table (parts_of chunks.now)) heap.old.work.heap heap.new.work.heap)
+        (S.waiting space.old) (S.waiting space.new) }
     ensures effect { OnlyReads (S.state space.old) (S.state space.new) }
     ensures waits { OnOk result (how_many (S.waiting space.new)
         ≤ how_many (S.waiting space.old) + ((have - old + added) / 4096 + 36
@@ -327,6 +338,9 @@ pub(crate) fn grow<S: Space>(
         (extents_in table (parts_of chunks.now)) heap.old.work.heap heap.new.work.heap))
         (S.image space.old)
         (S.image space.new) }
+    ensures only { WaitsWhereTold (S.image space.old) (changed_ranges
+        (extents_in table (parts_of chunks.now)) heap.old.work.heap heap.new.work.heap)
+        (S.waiting space.old) (S.waiting space.new) }
     ensures effect { OnlyReads (S.state space.old) (S.state space.new) }
     ensures waits { OnOk result (WaitsToGrow (length chunks.now) old new (S.waiting space.old)
         (S.waiting space.new)) }

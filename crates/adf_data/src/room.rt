@@ -5,6 +5,7 @@ ghost use Rattle.cg_io.specs.Blocks.{Both};
 ghost use Rattle.cg_io.specs.Answers.{OnlyReads, IsRefusal, IsUntold};
 ghost use Rattle.cg_io.specs.Waits.{how_many};
 ghost use Rattle.adf_format.specs.Changes.{heap_fields};
+ghost use Rattle.field_access.specs.Fields.{WaitsWhereTold};
 ghost use Rattle.adf_format.specs.HeapRule.{LimitReached, heap_take, heap_give, pairs};
 ghost use Rattle.adf_model.specs.declared.error.AdfError.{AdfError};
 ghost use Rattle.file_heap.specs.Links.{range};
@@ -42,6 +43,8 @@ pub(crate) fn take_range<S: Space>(heap: &mut Heap, space: &mut S, n: u64) -> Re
     ensures fillers { OnOk result (Both
         (KeepsFillers heap.old.work.heap.gaps heap.new.work.heap.gaps)
         (S.image space.old) (S.image space.new)) }
+    ensures only { WaitsWhereTold (S.image space.old) (heap_fields ++ heap.old.work.heap.gaps)
+        (S.waiting space.old) (S.waiting space.new) }
     ensures effect { OnlyReads (S.state space.old) (S.state space.new) }
     ensures waits { how_many (S.waiting space.new) ≤ how_many (S.waiting space.old) + 9 }
     ensures cause { IfErr result (IsTakeRefusal (IsUntold (S.image space.old))
@@ -51,7 +54,7 @@ pub(crate) fn take_range<S: Space>(heap: &mut Heap, space: &mut S, n: u64) -> Re
 }
 
 /// Gives a range that was read from the bytes: where these are not told it may be none that can be given.
-#[tactic(auto, using(file_heap::proofs::ChangeLaws::changes_none, cg_io::proofs::ReadLaws::few_only))]
+#[tactic(auto, using(file_heap::proofs::ChangeLaws::changes_none, field_access::proofs::WaitLaws::waits_none, cg_io::proofs::ReadLaws::few_only))]
 pub(crate) fn give_range<S: Space>(
     heap: &mut Heap,
     space: &mut S,
@@ -73,6 +76,9 @@ pub(crate) fn give_range<S: Space>(
     ensures threads { OnOk result (IfSome (S.image space.new) (IsThreaded heap.new.work)) }
     ensures bytes { Both (ChangesOnly (heap_fields ++ range place n ∷ heap.old.work.heap.gaps))
         (S.image space.old) (S.image space.new) }
+    ensures only { WaitsWhereTold (S.image space.old)
+        (heap_fields ++ range place n ∷ heap.old.work.heap.gaps)
+        (S.waiting space.old) (S.waiting space.new) }
     ensures end { OnOk result (Both (MovesEnd heap.old.work.heap.end heap.new.work.heap.end)
         (S.image space.old) (S.image space.new)) }
     ensures fillers { OnOk result (Both

@@ -11,9 +11,10 @@ ghost use Rattle.strided.specs.RunLists.{spread};
 ghost use Rattle.disk_ptr.specs.View.{HasOffset};
 ghost use Rattle.cg_io.specs.Answers.{OnlyReads, IsRefusal};
 ghost use Rattle.cg_io.specs.Waits.{how_many, WaitsOnly};
-ghost use Rattle.adf_data.specs.Chunks.{parts_of, IsSane};
+ghost use Rattle.adf_data.specs.Chunks.{parts_of, IsSane, Named};
+ghost use Rattle.field_access.specs.Fields.{WaitsWithin};
 ghost use Rattle.adf_data.specs.Ranges.{HasByte};
-ghost use Rattle.adf_data.specs.Runs.{EndsIn, run_bytes, run_at, RunsRead, WritesRuns, ChangesPayloads, IsShort, Holds, NoRuns, WritesElements, ChangesDataAlone};
+ghost use Rattle.adf_data.specs.Runs.{EndsIn, run_bytes, run_at, RunsRead, WritesRuns, ChangesPayloads, IsShort, Holds, NoRuns, WritesElements, ChangesDataAlone, payload_extents};
 
 use crate::chunks::{Chunk, list_chunks};
 use crate::place::DataPlace;
@@ -286,6 +287,8 @@ pub fn write_runs<S: Space>(
     ensures written { OnOk result (Both (WritesElements at.now element runs.now bytes.now)
         (S.image space.old) (S.image space.new)) }
     ensures alone { Both (ChangesDataAlone at.now) (S.image space.old) (S.image space.new) }
+    ensures only { (parts : NodeParts) → Named at.now parts (S.image space.old)
+        → WaitsWithin (payload_extents parts.chunks) (S.waiting space.old) (S.waiting space.new) }
     ensures waits { (limit : ℕ) → All (EndsIn element limit) runs.now
         → how_many (S.waiting space.new)
         ≤ how_many (S.waiting space.old) + (limit / 4096 + 2 * at.now.count) }

@@ -7,6 +7,7 @@ ghost use Rattle.cg_io.specs.Answers.{OnlyReads, IsRefusal};
 ghost use Rattle.cg_io.specs.Waits.{how_many, WaitsOnly};
 ghost use Rattle.adf_format.specs.Placement.{NodeParts};
 ghost use Rattle.adf_format.specs.Changes.{heap_fields};
+ghost use Rattle.field_access.specs.Fields.{WaitsWithin};
 ghost use Rattle.adf_format.specs.HeapRule.{LimitReached, give_all, data_extents, payload_length, chunk_length_for, pairs};
 ghost use Rattle.disk_ptr.specs.View.{HasOffset};
 ghost use Rattle.disk_ptr.specs.declared.DiskPtr.{DiskPtr};
@@ -54,6 +55,9 @@ pub fn release<S: Space>(
     ensures bytes { (parts : NodeParts) → Named at.old parts (S.image space.old)
         → Both (ChangesOnly (heap_fields ++ data_extents parts ++ heap.old.work.heap.gaps))
         (S.image space.old) (S.image space.new) }
+    ensures only { (parts : NodeParts) → Named at.old parts (S.image space.old)
+        → WaitsWithin (heap_fields ++ data_extents parts ++ heap.old.work.heap.gaps)
+        (S.waiting space.old) (S.waiting space.new) }
     ensures end { OnOk result (Both (MovesEnd heap.old.work.heap.end heap.new.work.heap.end)
         (S.image space.old) (S.image space.new)) }
     ensures fillers { OnOk result (Both
@@ -137,6 +141,9 @@ pub fn resize<S: Space>(
         → Both (ChangesOnly (sized_ranges parts heap.old.work.heap heap.new.work.heap))
         (S.image space.old)
         (S.image space.new) }
+    ensures only { (parts : NodeParts) → Named at.old parts (S.image space.old)
+        → WaitsWithin (sized_ranges parts heap.old.work.heap heap.new.work.heap)
+        (S.waiting space.old) (S.waiting space.new) }
     ensures full { (asked end : ℕ) → result ≡ Err (AdfError.Full asked end)
         → heap.old.limit * 4096 < heap.old.work.heap.end + 1 + chunk_length_for new
         + room_of_table at.old.count }

@@ -6,6 +6,7 @@ ghost use Rattle.cg_io.specs.Blocks.{Both};
 ghost use Rattle.cg_io.specs.Answers.{OnlyReads, IsRefusal, IsUntold};
 ghost use Rattle.cg_io.specs.Waits.{how_many, IsTouched, WaitsOnly};
 ghost use Rattle.adf_format.specs.HeapRule.{pairs};
+ghost use Rattle.field_access.specs.Fields.{WaitsWhereTold};
 ghost use Rattle.adf_model.specs.declared.error.AdfError.{AdfError};
 ghost use Rattle.disk_ptr.specs.View.{HasOffset};
 ghost use Rattle.file_heap.specs.Heap.{IsHeap, IsThreaded, IsTakeRefusal, ChangesOnly};
@@ -128,6 +129,8 @@ pub fn put_whole<S: Space>(
     ensures bytes { Both (ChangesOnly (room_of heap.old.work.heap heap.new.work.heap))
         (S.image space.old)
         (S.image space.new) }
+    ensures only { WaitsWhereTold (S.image space.old)
+        (room_of heap.old.work.heap heap.new.work.heap) (S.waiting space.old) (S.waiting space.new) }
     ensures effect { OnlyReads (S.state space.old) (S.state space.new) }
     ensures waits { OnOk result (how_many (S.waiting space.new)
         ≤ how_many (S.waiting space.old) + (length text.now / 4096 + 12)) }
@@ -183,6 +186,8 @@ pub fn put_part<S: Space>(
     ensures changes { Both (ChangesOnly (room_of heap.old.work.heap heap.new.work.heap))
         (S.image space.old)
         (S.image space.new) }
+    ensures only { WaitsWhereTold (S.image space.old)
+        (room_of heap.old.work.heap heap.new.work.heap) (S.waiting space.old) (S.waiting space.new) }
     ensures effect { OnlyReads (S.state space.old) (S.state space.new) }
     ensures waits { OnOk result (how_many (S.waiting space.new)
         ≤ how_many (S.waiting space.old) + (size / 4096 + 12)) }

@@ -8,6 +8,7 @@ use Rattle.adf_data.specs.Chunks.{parts_of}
 use Rattle.adf_data.specs.Sizes.{Ungivable}
 use Rattle.adf_data.proofs.GiveLaws.{gives_more, covers_more, bytes_more, refusal_more}
 use Rattle.adf_data.proofs.HeapWords.{end_then, fillers_then}
+use Rattle.adf_data.proofs.WaitLaws.{next_waits}
 use Rattle.adf_data.proofs.gifts.give_chunks.Goals as goal
 
 pub returns-in-Err-clause-bytes : goal.returns-in-Err-clause-bytes
@@ -38,6 +39,13 @@ loop-i-preserved g c = record {
   covers = covers_more c.args.chunks.now c.loop-i.i c.chunk_of-chunk.result c.args.heap.now.work.heap c.loop-i.heap.work.heap c.give_range.new.heap.work.heap c.loop-i-test.true c.chunk_of-chunk.ensures.part c.loop-i.invariant.covers c.in-Ok.ensures.gives;
   bytes = bytes_more c.args.chunks.now c.loop-i.i c.chunk_of-chunk.result c.args.heap.now.work.heap c.loop-i.heap.work.heap (g.S.ReadBytes.image c.args.space.now) (g.S.ReadBytes.image c.loop-i.space) (g.S.ReadBytes.image c.give_range.new.space) c.loop-i-test.true c.chunk_of-chunk.ensures.part c.loop-i.invariant.covers
       c.loop-i.invariant.bytes c.give_range.ensures.bytes;
+  only = next_waits c.args.chunks.now c.loop-i.i c.chunk_of-chunk.result c.args.heap.now.work.heap c.loop-i.heap.work.heap (g.S.ReadBytes.image c.args.space.now) (g.S.ReadBytes.image c.loop-i.space) (g.S.ReadBytes.waiting c.args.space.now) (g.S.ReadBytes.waiting c.loop-i.space) (g.S.ReadBytes.waiting c.give_range.new.space) c.loop-i-test.true c.chunk_of-chunk.ensures.part c.loop-i.invariant.covers
+      c.loop-i.invariant.bytes c.loop-i.invariant.only c.give_range.ensures.only;
   moves = end_then c.args.heap.now.work.heap.end c.loop-i.heap.work.heap.end c.give_range.new.heap.work.heap.end (g.S.ReadBytes.image c.args.space.now) (g.S.ReadBytes.image c.loop-i.space) (g.S.ReadBytes.image c.give_range.new.space) c.loop-i.invariant.moves c.in-Ok.ensures.end;
   fillers = fillers_then c.args.heap.now.work.heap.gaps c.loop-i.heap.work.heap.gaps c.give_range.new.heap.work.heap.gaps (g.S.ReadBytes.image c.args.space.now) (g.S.ReadBytes.image c.loop-i.space) (g.S.ReadBytes.image c.give_range.new.space) c.loop-i.invariant.fillers c.in-Ok.ensures.fillers;
 }
+
+pub returns-in-Err-clause-only : goal.returns-in-Err-clause-only
+returns-in-Err-clause-only g c =
+    next_waits c.args.chunks.now c.loop-i.i c.chunk_of-chunk.result c.args.heap.now.work.heap c.loop-i.heap.work.heap (g.S.ReadBytes.image c.args.space.now) (g.S.ReadBytes.image c.loop-i.space) (g.S.ReadBytes.waiting c.args.space.now) (g.S.ReadBytes.waiting c.loop-i.space) (g.S.ReadBytes.waiting c.give_range.new.space) c.loop-i-test.true c.chunk_of-chunk.ensures.part c.loop-i.invariant.covers
+    c.loop-i.invariant.bytes c.loop-i.invariant.only c.give_range.ensures.only

@@ -17,6 +17,7 @@ use Rattle.adf_data.proofs.GatherLaws.{room_in_ranges, later_refused}
 use Rattle.adf_data.proofs.ZeroLaws.{all_changes_chunks}
 use Rattle.adf_data.proofs.ExtendLaws.{long_extended, two_calls, three_calls, four_calls}
 use Rattle.adf_data.proofs.BlockLaws.{chunk_blocks, counted_data}
+use Rattle.adf_data.proofs.WaitLaws.{room_waits, two_wait, three_wait, four_wait, chunks_wait}
 use Rattle.adf_data.proofs.grow.extend.Goals as goal
 
 pub returns-in-Err-clause-bytes : goal.returns-in-Err-clause-bytes
@@ -71,3 +72,31 @@ returns-clause-waits g c =
     let p = c.in-Ok.ensures.waits in let t = c.in-Ok-put_table.ensures.waits in let w = c.give_table.ensures.waits in let n = chunk_blocks c.args.added in let l = c.chunk_length-length.ensures in let m = length-map c.args.chunks.now part_of in
     let z = counted_data (parts_of c.args.chunks.now) c.args.old (c.args.have - c.args.old) (g.S.ReadBytes.waiting c.give_table.new.space) (g.S.ReadBytes.waiting c.zero_range.new.space) c.zero_range.ensures.only in
     let few = c.requires.few in omega (arith, p, t, w, n, l, m, z, few)
+
+pub returns-in-Err-clause-only : goal.returns-in-Err-clause-only
+returns-in-Err-clause-only g c = room_waits (extents_in c.args.table (parts_of c.args.chunks.now)) c.args.heap.now.work.heap c.put_chunk.new.heap.work.heap (g.S.ReadBytes.image c.args.space.now) (g.S.ReadBytes.waiting c.args.space.now) (g.S.ReadBytes.waiting c.put_chunk.new.space) c.put_chunk.ensures.only
+
+pub returns-in-Err-put_table-clause-only : goal.returns-in-Err-put_table-clause-only
+returns-in-Err-put_table-clause-only g c =
+    two_wait (extents_in c.args.table (parts_of c.args.chunks.now)) c.args.heap.now.work.heap c.put_chunk.new.heap.work.heap c.put_table.new.heap.work.heap c.put_table.new.heap.work.heap _ c.in-Ok.place c.in-Ok.ensures.covers c.put_chunk.ensures.grows c.put_table.ensures.grows refl
+    (g.S.ReadBytes.image c.args.space.now) (g.S.ReadBytes.image c.put_chunk.new.space) (g.S.ReadBytes.image c.put_table.new.space) (g.S.ReadBytes.waiting c.args.space.now) (g.S.ReadBytes.waiting c.put_chunk.new.space) (g.S.ReadBytes.waiting c.put_table.new.space) c.put_chunk.ensures.bytes c.put_chunk.ensures.only c.put_table.ensures.only
+
+pub returns-in-Err-give_table-clause-only : goal.returns-in-Err-give_table-clause-only
+returns-in-Err-give_table-clause-only g c =
+    three_wait (extents_in c.args.table (parts_of c.args.chunks.now)) c.args.heap.now.work.heap c.put_chunk.new.heap.work.heap c.put_table.new.heap.work.heap c.give_table.new.heap.work.heap _ c.in-Ok.place c.in-Ok.ensures.covers c.put_chunk.ensures.grows c.put_table.ensures.grows c.give_table.ensures.last
+    (g.S.ReadBytes.image c.args.space.now) (g.S.ReadBytes.image c.put_chunk.new.space) (g.S.ReadBytes.image c.put_table.new.space) (g.S.ReadBytes.waiting c.args.space.now) (g.S.ReadBytes.waiting c.put_chunk.new.space) (g.S.ReadBytes.waiting c.put_table.new.space) c.put_chunk.ensures.bytes c.put_chunk.ensures.only c.put_table.ensures.only
+    (tables_of c.args.table c.args.chunks.now) (extents_of c.args.table c.args.chunks.now) (split c.args.table c.args.chunks.now) _ c.in-Ok-put_table.list c.in-Ok-put_table.ensures.covers (g.S.ReadBytes.image c.give_table.new.space) (g.S.ReadBytes.waiting c.give_table.new.space) c.put_table.ensures.bytes c.give_table.ensures.only
+
+pub returns-in-Err-zero_range-clause-only : goal.returns-in-Err-zero_range-clause-only
+returns-in-Err-zero_range-clause-only g c =
+    four_wait (extents_in c.args.table (parts_of c.args.chunks.now)) c.args.heap.now.work.heap c.put_chunk.new.heap.work.heap c.put_table.new.heap.work.heap c.give_table.new.heap.work.heap _ c.in-Ok.place c.in-Ok.ensures.covers c.put_chunk.ensures.grows c.put_table.ensures.grows c.give_table.ensures.last
+    (g.S.ReadBytes.image c.args.space.now) (g.S.ReadBytes.image c.put_chunk.new.space) (g.S.ReadBytes.image c.put_table.new.space) (g.S.ReadBytes.waiting c.args.space.now) (g.S.ReadBytes.waiting c.put_chunk.new.space) (g.S.ReadBytes.waiting c.put_table.new.space) c.put_chunk.ensures.bytes c.put_chunk.ensures.only c.put_table.ensures.only
+    (tables_of c.args.table c.args.chunks.now) (extents_of c.args.table c.args.chunks.now) (split c.args.table c.args.chunks.now) _ c.in-Ok-put_table.list c.in-Ok-put_table.ensures.covers (g.S.ReadBytes.image c.give_table.new.space) (g.S.ReadBytes.waiting c.give_table.new.space) c.put_table.ensures.bytes c.give_table.ensures.only
+    (g.S.ReadBytes.waiting c.zero_range.new.space) c.give_table.ensures.bytes (chunks_wait (parts_of c.args.chunks.now) c.args.old (c.args.have - c.args.old) (g.S.ReadBytes.waiting c.give_table.new.space) (g.S.ReadBytes.waiting c.zero_range.new.space) c.zero_range.ensures.only)
+
+pub returns-clause-only : goal.returns-clause-only
+returns-clause-only g c =
+    four_wait (extents_in c.args.table (parts_of c.args.chunks.now)) c.args.heap.now.work.heap c.put_chunk.new.heap.work.heap c.put_table.new.heap.work.heap c.give_table.new.heap.work.heap _ c.in-Ok.place c.in-Ok.ensures.covers c.put_chunk.ensures.grows c.put_table.ensures.grows c.give_table.ensures.last
+    (g.S.ReadBytes.image c.args.space.now) (g.S.ReadBytes.image c.put_chunk.new.space) (g.S.ReadBytes.image c.put_table.new.space) (g.S.ReadBytes.waiting c.args.space.now) (g.S.ReadBytes.waiting c.put_chunk.new.space) (g.S.ReadBytes.waiting c.put_table.new.space) c.put_chunk.ensures.bytes c.put_chunk.ensures.only c.put_table.ensures.only
+    (tables_of c.args.table c.args.chunks.now) (extents_of c.args.table c.args.chunks.now) (split c.args.table c.args.chunks.now) _ c.in-Ok-put_table.list c.in-Ok-put_table.ensures.covers (g.S.ReadBytes.image c.give_table.new.space) (g.S.ReadBytes.waiting c.give_table.new.space) c.put_table.ensures.bytes c.give_table.ensures.only
+    (g.S.ReadBytes.waiting c.zero_range.new.space) c.give_table.ensures.bytes (chunks_wait (parts_of c.args.chunks.now) c.args.old (c.args.have - c.args.old) (g.S.ReadBytes.waiting c.give_table.new.space) (g.S.ReadBytes.waiting c.zero_range.new.space) c.zero_range.ensures.only)

@@ -8,6 +8,7 @@ use Rattle.adf_data.proofs.ChunkLaws.{view_from}
 use Rattle.adf_data.proofs.GatherLaws.{long_gathered, room_in_ranges, gathered_bytes, later_refused}
 use Rattle.adf_data.proofs.BlockLaws.{chunk_blocks}
 use Rattle.std.proofs.Common.{arith}
+use Rattle.adf_data.proofs.WaitLaws.{room_waits, gathered_waits}
 use Rattle.adf_data.proofs.grow.gather.Goals as goal
 
 pub returns-in-Err-clause-bytes : goal.returns-in-Err-clause-bytes
@@ -43,3 +44,16 @@ returns-clause-gathers g c =
 pub returns-clause-waits : goal.returns-clause-waits
 returns-clause-waits g c =
     let p = c.in-Ok.ensures.waits in let w = c.give_data.ensures.waits in let n = chunk_blocks c.args.new in let l = c.chunk_length.ensures in omega (arith, p, w, n, l)
+
+pub returns-in-Err-clause-only : goal.returns-in-Err-clause-only
+returns-in-Err-clause-only g c = room_waits (extents_in c.args.table (parts_of c.args.chunks.now)) c.args.heap.now.work.heap c.put_chunk.new.heap.work.heap (g.S.ReadBytes.image c.args.space.now) (g.S.ReadBytes.waiting c.args.space.now) (g.S.ReadBytes.waiting c.put_chunk.new.space) c.put_chunk.ensures.only
+
+pub returns-in-Err-give_data-clause-only : goal.returns-in-Err-give_data-clause-only
+returns-in-Err-give_data-clause-only g c =
+    gathered_waits (extents_in c.args.table (parts_of c.args.chunks.now)) _ c.in-Ok.place c.args.heap.now.work.heap c.put_chunk.new.heap.work.heap c.give_data.new.heap.work.heap (g.S.ReadBytes.image c.args.space.now) (g.S.ReadBytes.image c.put_chunk.new.space) (g.S.ReadBytes.waiting c.args.space.now) (g.S.ReadBytes.waiting c.put_chunk.new.space) (g.S.ReadBytes.waiting c.give_data.new.space)
+    c.requires.heap c.in-Ok.ensures.covers c.give_data.ensures.last c.put_chunk.ensures.bytes c.put_chunk.ensures.only c.give_data.ensures.only
+
+pub returns-clause-only : goal.returns-clause-only
+returns-clause-only g c =
+    gathered_waits (extents_in c.args.table (parts_of c.args.chunks.now)) _ c.in-Ok.place c.args.heap.now.work.heap c.put_chunk.new.heap.work.heap c.give_data.new.heap.work.heap (g.S.ReadBytes.image c.args.space.now) (g.S.ReadBytes.image c.put_chunk.new.space) (g.S.ReadBytes.waiting c.args.space.now) (g.S.ReadBytes.waiting c.put_chunk.new.space) (g.S.ReadBytes.waiting c.give_data.new.space)
+    c.requires.heap c.in-Ok.ensures.covers c.give_data.ensures.last c.put_chunk.ensures.bytes c.put_chunk.ensures.only c.give_data.ensures.only

@@ -4,6 +4,7 @@ use Rattle.adf_data.proofs.RoomLaws.{taken_in_room, threads_stay, end_stays, fil
 use Rattle.adf_data.proofs.GrowLaws.{all_put}
 use Rattle.adf_data.proofs.BlockLaws.{counted_range}
 use Rattle.std.proofs.Common.{arith}
+use Rattle.adf_data.proofs.WaitLaws.{take_waits, put_waits}
 use Rattle.adf_data.proofs.grow.put_chunk.Goals as goal
 
 pub returns-in-Err-clause-bytes : goal.returns-in-Err-clause-bytes
@@ -44,3 +45,16 @@ returns-in-Ok-write_chunk-clause-fillers g c =
 pub returns-in-Ok-write_chunk-clause-waits : goal.returns-in-Ok-write_chunk-clause-waits
 returns-in-Ok-write_chunk-clause-waits g c =
     let t = c.take_range.ensures.waits in let w = counted_range c.in-Ok.place c.args.n (g.S.ReadBytes.waiting c.take_range.new.space) (g.S.ReadBytes.waiting c.write_chunk.new.space) c.write_chunk.ensures.only in omega (arith, t, w)
+
+pub returns-in-Err-clause-only : goal.returns-in-Err-clause-only
+returns-in-Err-clause-only g c = take_waits c.args.heap.now.work.heap c.take_range.new.heap.work.heap (g.S.ReadBytes.image c.args.space.now) (g.S.ReadBytes.waiting c.args.space.now) (g.S.ReadBytes.waiting c.take_range.new.space) c.take_range.ensures.only
+
+pub returns-in-Ok-write_chunk-clause-only : goal.returns-in-Ok-write_chunk-clause-only
+returns-in-Ok-write_chunk-clause-only g c =
+    put_waits c.args.n c.in-Ok.place c.args.heap.now.work.heap c.take_range.new.heap.work.heap c.requires.heap c.in-Ok.ensures.covers c.in-Ok.ensures.within
+    (g.S.ReadBytes.image c.args.space.now) (g.S.ReadBytes.image c.take_range.new.space) (g.S.ReadBytes.waiting c.args.space.now) (g.S.ReadBytes.waiting c.take_range.new.space) (g.S.ReadBytes.waiting c.write_chunk.new.space) c.take_range.ensures.bytes c.take_range.ensures.only c.write_chunk.ensures.only
+
+pub returns-in-Err-write_chunk-clause-only : goal.returns-in-Err-write_chunk-clause-only
+returns-in-Err-write_chunk-clause-only g c =
+    put_waits c.args.n c.in-Ok.place c.args.heap.now.work.heap c.take_range.new.heap.work.heap c.requires.heap c.in-Ok.ensures.covers c.in-Ok.ensures.within
+    (g.S.ReadBytes.image c.args.space.now) (g.S.ReadBytes.image c.take_range.new.space) (g.S.ReadBytes.waiting c.args.space.now) (g.S.ReadBytes.waiting c.take_range.new.space) (g.S.ReadBytes.waiting c.write_chunk.new.space) c.take_range.ensures.bytes c.take_range.ensures.only c.write_chunk.ensures.only

@@ -6,6 +6,8 @@ use Rattle.adf_data.proofs.HeapWords.{end_then, fillers_then}
 use Rattle.adf_data.proofs.RoomLaws.{taken_in_room, threads_stay, end_stays, fillers_stay, written_in_room}
 use Rattle.adf_data.proofs.GrowLaws.{all_tables}
 use Rattle.adf_data.proofs.BlockLaws.{few_blocks}
+use Rattle.cg_io.specs.Waits.{IsTouched, WaitsOnly}
+use Rattle.adf_data.proofs.WaitLaws.{take_waits, put_waits}
 use Rattle.adf_data.proofs.grow.put_table.Goals as goal
 
 pub returns-in-Err-clause-bytes : goal.returns-in-Err-clause-bytes
@@ -53,3 +55,21 @@ pub returns-in-Ok-store-clause-waits : goal.returns-in-Ok-store-clause-waits
 returns-in-Ok-store-clause-waits g c =
     let long : length c.deref.result.now ≡ 44 + 24 * length c.args.chunks.now = ap length c.deref.ensures.value ∙ c.in-Ok-table_text.ensures.long in
     let t = c.take_range.ensures.waits in let w = c.store.ensures.waits in let f = few_blocks c.in-Ok.place (length c.deref.result.now) in omega (arith, t, w, f, long)
+
+pub returns-in-Err-clause-only : goal.returns-in-Err-clause-only
+returns-in-Err-clause-only g c = take_waits c.args.heap.now.work.heap c.take_range.new.heap.work.heap (g.S.ReadBytes.image c.args.space.now) (g.S.ReadBytes.waiting c.args.space.now) (g.S.ReadBytes.waiting c.take_range.new.space) c.take_range.ensures.only
+
+pub returns-in-Err-table_text-clause-only : goal.returns-in-Err-table_text-clause-only
+returns-in-Err-table_text-clause-only g c = take_waits c.args.heap.now.work.heap c.take_range.new.heap.work.heap (g.S.ReadBytes.image c.args.space.now) (g.S.ReadBytes.waiting c.args.space.now) (g.S.ReadBytes.waiting c.take_range.new.space) c.take_range.ensures.only
+
+pub returns-in-Ok-store-clause-only : goal.returns-in-Ok-store-clause-only
+returns-in-Ok-store-clause-only g c =
+    put_waits (44 + 24 * length c.args.chunks.now) c.in-Ok.place c.args.heap.now.work.heap c.take_range.new.heap.work.heap c.requires.heap c.in-Ok.ensures.covers c.in-Ok.ensures.within
+    (g.S.ReadBytes.image c.args.space.now) (g.S.ReadBytes.image c.take_range.new.space) (g.S.ReadBytes.waiting c.args.space.now) (g.S.ReadBytes.waiting c.take_range.new.space) (g.S.ReadBytes.waiting c.store.new.space) c.take_range.ensures.bytes c.take_range.ensures.only
+    (subst (λ m. WaitsOnly (IsTouched c.in-Ok.place m) (g.S.ReadBytes.waiting c.take_range.new.space) (g.S.ReadBytes.waiting c.store.new.space)) (ap length c.deref.ensures.value ∙ c.in-Ok-table_text.ensures.long) c.store.ensures.only)
+
+pub returns-clause-only : goal.returns-clause-only
+returns-clause-only g c =
+    put_waits (44 + 24 * length c.args.chunks.now) c.in-Ok.place c.args.heap.now.work.heap c.take_range.new.heap.work.heap c.requires.heap c.in-Ok.ensures.covers c.in-Ok.ensures.within
+    (g.S.ReadBytes.image c.args.space.now) (g.S.ReadBytes.image c.take_range.new.space) (g.S.ReadBytes.waiting c.args.space.now) (g.S.ReadBytes.waiting c.take_range.new.space) (g.S.ReadBytes.waiting c.store.new.space) c.take_range.ensures.bytes c.take_range.ensures.only
+    (subst (λ m. WaitsOnly (IsTouched c.in-Ok.place m) (g.S.ReadBytes.waiting c.take_range.new.space) (g.S.ReadBytes.waiting c.store.new.space)) (ap length c.deref.ensures.value ∙ c.in-Ok-table_text.ensures.long) c.store.ensures.only)

@@ -1,4 +1,4 @@
-use Rattle.std.proofs.Common.{◌≡◌, List, length, ap, ◌∙◌, arith, sym, subst}
+use Rattle.std.proofs.Common.{◌≡◌, ◌^◌, List, length, ap, ◌∙◌, arith, sym, subst}
 use Rattle.std.specs.List.{All}
 use Rattle.cg_io.specs.Blocks.{Both}
 use Rattle.adf_format.specs.Placement.{NodeParts}
@@ -14,6 +14,8 @@ use Rattle.adf_data.proofs.StayLaws.{elements_written, alone_changes}
 use Rattle.adf_data.proofs.BlockLaws.{counted_data}
 use Rattle.cg_io.specs.Waits.{how_many}
 use Rattle.std.proofs.lemmas.List.{length-map}
+use Rattle.field_access.proofs.WaitLaws.{waits_same}
+use Rattle.adf_data.proofs.WaitLaws.{alone_waits}
 use Rattle.adf_data.proofs.runs.write_runs.Goals as goal
 
 pub returns-in-Err-clause-cause : goal.returns-in-Err-clause-cause
@@ -47,3 +49,11 @@ pub returns-clause-waits : goal.returns-clause-waits
 returns-clause-waits g c = λ limit ends.
     let z = counted_data (parts_of c.deref.result.now) 0 limit (g.S.ReadBytes.waiting c.list_chunks.new.space) (g.S.ReadBytes.waiting c.write_bytes.new.space) (c.write_bytes.ensures.only limit (subst (All (EndsIn c.args.element limit)) (sym c.items.ensures) ends)) in
     let m = length-map c.deref.result.now part_of in let k = ap length c.deref.ensures.value ∙ c.in-Ok.ensures.count in let s = ap how_many c.list_chunks.ensures.waits in omega (arith, z, m, k, s)
+
+pub returns-in-Err-clause-only : goal.returns-in-Err-clause-only
+returns-in-Err-clause-only g c = λ parts n. waits_same _ (g.S.ReadBytes.waiting c.args.space.now) (g.S.ReadBytes.waiting c.list_chunks.new.space) c.list_chunks.ensures.waits
+
+pub returns-clause-only : goal.returns-clause-only
+returns-clause-only g c =
+    alone_waits c.args.at.now c.deref.result.now (g.S.ReadBytes.image c.args.space.now) (subst (λ (cs : List Chunk). (parts : NodeParts) → Named c.args.at.now parts (g.S.ReadBytes.image c.args.space.now) → parts_of cs ≡ parts.chunks) (sym c.deref.ensures.value) c.in-Ok.ensures.says)
+    (2 ^ 30) (g.S.ReadBytes.waiting c.args.space.now) (g.S.ReadBytes.waiting c.list_chunks.new.space) (g.S.ReadBytes.waiting c.write_bytes.new.space) c.list_chunks.ensures.waits (c.write_bytes.ensures.only (2 ^ 30) (subst (All (EndsIn c.args.element (2 ^ 30))) (sym c.items.ensures) c.requires.small))

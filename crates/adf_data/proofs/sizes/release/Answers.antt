@@ -11,6 +11,8 @@ use Rattle.adf_data.specs.declared.chunks.Chunk.{Chunk}
 use Rattle.adf_data.specs.Chunks.{parts_of, Named, NoneNamed}
 use Rattle.adf_data.specs.Sizes.{extents_in, MayGiveAll, Ungivable}
 use Rattle.adf_data.proofs.ReleaseLaws.{named_extents, release_refused}
+use Rattle.field_access.proofs.WaitLaws.{waits_same}
+use Rattle.adf_data.proofs.WaitLaws.{named_waits}
 use Rattle.adf_data.proofs.sizes.release.Goals as goal
 
 pub give_data-requires-clause-few : goal.give_data-requires-clause-few
@@ -46,3 +48,16 @@ returns-in-Err-give_data-clause-cause g c =
     (named_extents c.args.at.now c.deref.result.now c.table_in.result (g.S.ReadBytes.image c.args.space.now) (subst (λ (cs : List Chunk). (parts : NodeParts) → Named c.args.at.now parts (g.S.ReadBytes.image c.args.space.now) → parts_of cs ≡ parts.chunks) (sym c.deref.ensures.value) c.in-Ok.ensures.says) (λ q m. c.table_in.ensures.says q (g.S.ReadBytes.image c.args.space.now) m))
     (subst (λ (i : Option (List ℕ)). Ungivable i (extents_in c.table_in.result (parts_of c.deref.result.now)) c.args.heap.now.work.heap) c.list_chunks.ensures.image u))
     c.in-Err-give_data.ensures.cause
+
+pub returns-in-Err-clause-only : goal.returns-in-Err-clause-only
+returns-in-Err-clause-only g c = λ parts n. waits_same _ (g.S.ReadBytes.waiting c.args.space.now) (g.S.ReadBytes.waiting c.list_chunks.new.space) c.list_chunks.ensures.waits
+
+pub returns-in-Err-give_data-clause-only : goal.returns-in-Err-give_data-clause-only
+returns-in-Err-give_data-clause-only g c =
+    named_waits c.args.at.now c.deref.result.now c.table_in.result (g.S.ReadBytes.image c.args.space.now) (g.S.ReadBytes.image c.list_chunks.new.space) c.list_chunks.ensures.image (subst (λ (cs : List Chunk). (parts : NodeParts) → Named c.args.at.now parts (g.S.ReadBytes.image c.args.space.now) → parts_of cs ≡ parts.chunks) (sym c.deref.ensures.value) c.in-Ok.ensures.says)
+    (λ q m. c.table_in.ensures.says q (g.S.ReadBytes.image c.args.space.now) m) (λ es. heap_fields ++ es ++ c.args.heap.now.work.heap.gaps) (g.S.ReadBytes.waiting c.args.space.now) (g.S.ReadBytes.waiting c.list_chunks.new.space) (g.S.ReadBytes.waiting c.give_data.new.space) c.list_chunks.ensures.waits c.give_data.ensures.only
+
+pub returns-clause-only : goal.returns-clause-only
+returns-clause-only g c =
+    named_waits c.args.at.now c.deref.result.now c.table_in.result (g.S.ReadBytes.image c.args.space.now) (g.S.ReadBytes.image c.list_chunks.new.space) c.list_chunks.ensures.image (subst (λ (cs : List Chunk). (parts : NodeParts) → Named c.args.at.now parts (g.S.ReadBytes.image c.args.space.now) → parts_of cs ≡ parts.chunks) (sym c.deref.ensures.value) c.in-Ok.ensures.says)
+    (λ q m. c.table_in.ensures.says q (g.S.ReadBytes.image c.args.space.now) m) (λ es. heap_fields ++ es ++ c.args.heap.now.work.heap.gaps) (g.S.ReadBytes.waiting c.args.space.now) (g.S.ReadBytes.waiting c.list_chunks.new.space) (g.S.ReadBytes.waiting c.give_data.new.space) c.list_chunks.ensures.waits c.give_data.ensures.only

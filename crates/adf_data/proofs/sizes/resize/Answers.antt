@@ -7,12 +7,14 @@ use Rattle.adf_model.specs.declared.error.AdfError.TheVariants as error
 use Rattle.adf_data.specs.declared.chunks.Chunk.{Chunk}
 use Rattle.adf_data.specs.Chunks.{part_of, parts_of, Named, NoneNamed}
 use Rattle.adf_data.specs.Sizes.{extents_in, Ungivable}
-use Rattle.adf_data.specs.Growing.{Owns, WaitsToGrow}
+use Rattle.adf_data.specs.Growing.{changed_ranges, Owns, WaitsToGrow}
 use Rattle.adf_data.proofs.HeapWords.{grow_later, grown_later}
 use Rattle.adf_data.proofs.SizeLaws.{owns_named, too_short, unowned, full_for, sized_bytes, cleared_bytes, all_resize, all_cleared, same_refusal}
 use Rattle.adf_data.proofs.BlockLaws.{counted_data}
 use Rattle.cg_io.specs.Waits.{how_many}
 use Rattle.std.proofs.lemmas.List.{length-map}
+use Rattle.field_access.proofs.WaitLaws.{waits_same}
+use Rattle.adf_data.proofs.WaitLaws.{named_waits, cleared_waits}
 use Rattle.adf_data.proofs.sizes.resize.Goals as goal
 
 pub returns-in-Err-clause-cause : goal.returns-in-Err-clause-cause
@@ -66,3 +68,25 @@ pub returns-in-Ok-grow-clause-waits : goal.returns-in-Ok-grow-clause-waits
 returns-in-Ok-grow-clause-waits g c =
     subst (λ (blocks : List ℕ). WaitsToGrow c.args.at.now.count c.args.old c.args.new blocks (g.S.ReadBytes.waiting c.grow.new.space)) c.list_chunks.ensures.waits
     (subst (λ n. WaitsToGrow n c.args.old c.args.new (g.S.ReadBytes.waiting c.list_chunks.new.space) (g.S.ReadBytes.waiting c.grow.new.space)) (ap length c.deref-2.ensures.value ∙ c.in-Ok.ensures.count) c.in-Ok-grow.ensures.waits)
+
+pub returns-in-Err-clause-only : goal.returns-in-Err-clause-only
+returns-in-Err-clause-only g c = λ parts n. waits_same _ (g.S.ReadBytes.waiting c.args.space.now) (g.S.ReadBytes.waiting c.list_chunks.new.space) c.list_chunks.ensures.waits
+
+pub returns-then-have-old-clause-only : goal.returns-then-have-old-clause-only
+returns-then-have-old-clause-only g c = λ parts n. waits_same _ (g.S.ReadBytes.waiting c.args.space.now) (g.S.ReadBytes.waiting c.list_chunks.new.space) c.list_chunks.ensures.waits
+
+pub returns-then-new-have-clause-only : goal.returns-then-new-have-clause-only
+returns-then-new-have-clause-only g c =
+    named_waits c.args.at.now c.deref-then-new-have.result.now c.table_in-table.result (g.S.ReadBytes.image c.args.space.now) (g.S.ReadBytes.image c.list_chunks.new.space) c.list_chunks.ensures.image (subst (λ (cs : List Chunk). (parts : NodeParts) → Named c.args.at.now parts (g.S.ReadBytes.image c.args.space.now) → parts_of cs ≡ parts.chunks) (sym c.deref-then-new-have.ensures.value) c.in-Ok.ensures.says)
+    (λ q m. c.table_in-table.ensures.says q (g.S.ReadBytes.image c.args.space.now) m) (λ es. changed_ranges es c.args.heap.now.work.heap c.args.heap.now.work.heap) (g.S.ReadBytes.waiting c.args.space.now) (g.S.ReadBytes.waiting c.list_chunks.new.space) (g.S.ReadBytes.waiting c.clear_between.new.space) c.list_chunks.ensures.waits
+    (cleared_waits c.table_in-table.result (parts_of c.deref-then-new-have.result.now) c.args.heap.now.work.heap c.args.old (c.args.new - c.args.old) (g.S.ReadBytes.image c.list_chunks.new.space) (g.S.ReadBytes.waiting c.list_chunks.new.space) (g.S.ReadBytes.waiting c.clear_between.new.space) c.clear_between.ensures.only)
+
+pub returns-in-Ok-grow-clause-only : goal.returns-in-Ok-grow-clause-only
+returns-in-Ok-grow-clause-only g c =
+    named_waits c.args.at.now c.deref-2.result.now c.table_in-table.result (g.S.ReadBytes.image c.args.space.now) (g.S.ReadBytes.image c.list_chunks.new.space) c.list_chunks.ensures.image (subst (λ (cs : List Chunk). (parts : NodeParts) → Named c.args.at.now parts (g.S.ReadBytes.image c.args.space.now) → parts_of cs ≡ parts.chunks) (sym c.deref-2.ensures.value) c.in-Ok.ensures.says)
+    (λ q m. c.table_in-table.ensures.says q (g.S.ReadBytes.image c.args.space.now) m) (λ es. changed_ranges es c.args.heap.now.work.heap c.grow.new.heap.work.heap) (g.S.ReadBytes.waiting c.args.space.now) (g.S.ReadBytes.waiting c.list_chunks.new.space) (g.S.ReadBytes.waiting c.grow.new.space) c.list_chunks.ensures.waits c.grow.ensures.only
+
+pub returns-clause-only : goal.returns-clause-only
+returns-clause-only g c =
+    named_waits c.args.at.now c.deref-2.result.now c.table_in-table.result (g.S.ReadBytes.image c.args.space.now) (g.S.ReadBytes.image c.list_chunks.new.space) c.list_chunks.ensures.image (subst (λ (cs : List Chunk). (parts : NodeParts) → Named c.args.at.now parts (g.S.ReadBytes.image c.args.space.now) → parts_of cs ≡ parts.chunks) (sym c.deref-2.ensures.value) c.in-Ok.ensures.says)
+    (λ q m. c.table_in-table.ensures.says q (g.S.ReadBytes.image c.args.space.now) m) (λ es. changed_ranges es c.args.heap.now.work.heap c.grow.new.heap.work.heap) (g.S.ReadBytes.waiting c.args.space.now) (g.S.ReadBytes.waiting c.list_chunks.new.space) (g.S.ReadBytes.waiting c.grow.new.space) c.list_chunks.ensures.waits c.grow.ensures.only

@@ -6,6 +6,7 @@ use Rattle.adf_data.proofs.BlockLaws.{counted_range, chunk_blocks}
 use Rattle.adf_model.specs.declared.error.AdfError.TheVariants as error
 use Rattle.adf_data.proofs.SizeLaws.{same_refusal}
 use Rattle.adf_data.proofs.WholeLaws.{all_put, whole_full}
+use Rattle.adf_data.proofs.WaitLaws.{take_waits, put_waits}
 use Rattle.adf_data.proofs.whole.put_whole.Goals as goal
 
 pub returns-in-Err-clause-bytes : goal.returns-in-Err-clause-bytes
@@ -34,3 +35,16 @@ pub returns-in-Ok-write_text-clause-waits : goal.returns-in-Ok-write_text-clause
 returns-in-Ok-write_text-clause-waits g c =
     let t = c.take_range.ensures.waits in let w = counted_range c.in-Ok.place c.chunk_length-n.result (g.S.ReadBytes.waiting c.take_range.new.space) (g.S.ReadBytes.waiting c.write_text.new.space) c.write_text.ensures.only in
     let n = chunk_blocks (length c.args.text.now) in let l = c.chunk_length-n.ensures in omega (arith, t, w, n, l)
+
+pub returns-in-Err-clause-only : goal.returns-in-Err-clause-only
+returns-in-Err-clause-only g c = take_waits c.args.heap.now.work.heap c.take_range.new.heap.work.heap (g.S.ReadBytes.image c.args.space.now) (g.S.ReadBytes.waiting c.args.space.now) (g.S.ReadBytes.waiting c.take_range.new.space) c.take_range.ensures.only
+
+pub returns-in-Ok-write_text-clause-only : goal.returns-in-Ok-write_text-clause-only
+returns-in-Ok-write_text-clause-only g c =
+    put_waits c.chunk_length-n.result c.in-Ok.place c.args.heap.now.work.heap c.take_range.new.heap.work.heap c.requires.heap c.in-Ok.ensures.covers c.in-Ok.ensures.within
+    (g.S.ReadBytes.image c.args.space.now) (g.S.ReadBytes.image c.take_range.new.space) (g.S.ReadBytes.waiting c.args.space.now) (g.S.ReadBytes.waiting c.take_range.new.space) (g.S.ReadBytes.waiting c.write_text.new.space) c.take_range.ensures.bytes c.take_range.ensures.only c.write_text.ensures.only
+
+pub returns-in-Err-write_text-clause-only : goal.returns-in-Err-write_text-clause-only
+returns-in-Err-write_text-clause-only g c =
+    put_waits c.chunk_length-n.result c.in-Ok.place c.args.heap.now.work.heap c.take_range.new.heap.work.heap c.requires.heap c.in-Ok.ensures.covers c.in-Ok.ensures.within
+    (g.S.ReadBytes.image c.args.space.now) (g.S.ReadBytes.image c.take_range.new.space) (g.S.ReadBytes.waiting c.args.space.now) (g.S.ReadBytes.waiting c.take_range.new.space) (g.S.ReadBytes.waiting c.write_text.new.space) c.take_range.ensures.bytes c.take_range.ensures.only c.write_text.ensures.only
