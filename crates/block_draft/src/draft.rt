@@ -1,11 +1,13 @@
 // Changes of blocks that wait for a commit.
 ghost use Rattle.std.specs.Prelude.{◌≡◌, ◌^◌, ◌+◌, ◌*◌, ◌≤◌, [], length, false, IfErr, OnOk, OnErr};
+ghost use Rattle.std.specs.Borrow.{sem};
 ghost use Rattle.cg_io.specs.Cause.{HasCause, Rose};
 ghost use Rattle.cg_io.specs.Device.{Gives, GivesAt};
 ghost use Rattle.cg_io.specs.Blocks.{ReadsFew, blocks_of, Both, Wrote, KeepsOutside};
 ghost use Rattle.cg_io.specs.Waits.{how_many, IsTouched, WaitsOnly};
 ghost use Rattle.block_draft.specs.Changes.{image_of, raised_by, IsPartWritten, AreChanges, ChangesOnly, ChangesWithin};
 ghost use Rattle.block_draft.specs.Draft.{blocks_below, changes_in, waiting_in, shown_in, state_below, is_sound_below};
+ghost use Rattle.block_draft.specs.Lends.{LendsBlocks};
 ghost use Rattle.cg_io.specs.Answers.{AnswersRead, HasRisen};
 
 use crate::changes::{Block, Changes, patch};
@@ -42,6 +44,14 @@ impl<B: Blocks> Draft<B> {
     {
         let Draft { blocks, changed: _ } = self;
         blocks
+    }
+
+    /// The blocks below, as they were last committed.
+    pub fn blocks_mut(&mut self) -> &mut B
+        ensures* lends { sem 𝓛 (LendsBlocks B.row self.entry result) }
+        ensures blocks { result.now ≡ blocks_below self.old }
+    {
+        &mut self.blocks
     }
 
     /// How many blocks are changed.
