@@ -1,1 +1,2 @@
-mod SurveyLaws
+pub mod SurveyLaws
+pub mod SurveyOrder

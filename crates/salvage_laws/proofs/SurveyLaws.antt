@@ -1,6 +1,6 @@
 -- A survey with a stack, step by step, is the survey of the nodes.
 use Rattle.std.proofs.Common.{◌≡◌, ◌⊎◌, inl, inr, ℕ, zero, suc, refl, sym, ◌∙◌, ap, subst, List, [], ◌∷◌, ◌++◌, length, map, reverse, length-append, ◌+◌}
-use Rattle.std.proofs.lemmas.List.{reverse-append, reverse-reverse}
+use Rattle.std.proofs.lemmas.List.{reverse-append, reverse-reverse, map-append}
 use Rattle.std.specs.Prelude.{Some, None, slice_get, ◌==◌, ◌||◌}
 use Rattle.std.specs.List.{range_with_len, list_any}
 use Rattle.adf_format.specs.Pointer.{place_of}
@@ -12,7 +12,7 @@ use Rattle.adf_format.proofs.PathLaws.{child_of}
 use Rattle.adf_model.proofs.Basics.{not_there}
 use Rattle.layout_laws.specs.NodePass.{Waiting, IsMet, AreMet, is_known, met_extents, node_rows_at, waiting_child, waiting_children}
 use Rattle.layout_laws.proofs.NodePassLaws.{known_extents, rows_of_node}
-use Rattle.salvage_laws.specs.Surveys.{IsSurveying, NodeSurvey, Outcome, rows_of, waiting_root}
+use Rattle.salvage_laws.specs.Surveys.{IsSurveying, NodeSurvey, Outcome, rows_of, waiting_root, visits_of}
 
 -- ---- lists
 
@@ -67,12 +67,13 @@ module _ (image : List ℕ) where
   -- ---- the steps
 
   -- the root waits alone
-  pub start : IsSurveying image (waiting_root image ∷ []) [] []
+  pub start : IsSurveying image (waiting_root image ∷ []) [] [] []
   start = record {
     seen = [];
     next = root_visit image ∷ [];
     waits = (record { place = refl; entry = refl; depth = refl; linked = inl (refl, refl, refl) }, tt);
     found = tt;
+    leaves = tt;
     goes_on = λ outcome s. s;
   }
 
@@ -104,9 +105,9 @@ module _ (image : List ℕ) where
   )
 
   -- a node that breaks no rule is kept, and its children wait above the others, the first one last
-  pub keeps : (ms : List Waiting) (m : Waiting) (nodes : List Waiting) (left : List (Visit × Fault)) → IsSurveying image (ms ++ m ∷ []) nodes left → first_broken (rows_of image nodes m) ≡ None
-      → IsSurveying image (ms ++ reverse (waiting_children image (table_in image m.place) (length nodes) (m.depth + 1) (children_in image m.place))) (nodes ++ m ∷ []) left
-  keeps ms m nodes left u sound =
+  pub keeps : (ms : List Waiting) (m : Waiting) (nodes out : List Waiting) (left : List (Visit × Fault)) → IsSurveying image (ms ++ m ∷ []) nodes out left → first_broken (rows_of image nodes m) ≡ None
+      → IsSurveying image (ms ++ reverse (waiting_children image (table_in image m.place) (length nodes) (m.depth + 1) (children_in image m.place))) (nodes ++ m ∷ []) out left
+  keeps ms m nodes out left u sound =
       let n = next_of u.seen u.next ms m u.waits in
       let many : length nodes ≡ length u.seen = met_many u.seen nodes u.seen u.found in
       let here : slice_get (u.seen ++ n.v ∷ []) (length nodes) ≡ Some n.v = ap (slice_get (u.seen ++ n.v ∷ [])) many ∙ at_last u.seen n.v in
@@ -120,31 +121,31 @@ module _ (image : List ℕ) where
         next = child_visits image n.v ++ n.rest;
         waits = subst (λ xs. AreMet (u.seen ++ n.v ∷ []) xs (child_visits image n.v ++ n.rest)) (sym stack) (met-append (u.seen ++ n.v ∷ []) children (reverse ms) (child_visits image n.v) n.rest kids (met_later u.seen n.v (reverse ms) n.rest n.others));
         found = met-append (u.seen ++ n.v ∷ []) nodes (m ∷ []) u.seen (n.v ∷ []) (met_later u.seen n.v nodes u.seen u.found) (met_later u.seen n.v (m ∷ []) (n.v ∷ []) (n.met, tt));
+        leaves = met_later u.seen n.v out (visits_of left) u.leaves;
         goes_on = λ outcome s. u.goes_on outcome (subst (λ todo. Survey (visit_rows image (is_wide image) (last_byte image)) (child_visits image) todo u.seen left outcome) (sym n.whole)
             (kept_one {outcome = outcome} (ap first_broken (same_rows u.seen nodes m n.v u.found n.met) ∙ sound) s));
       }
 
   -- one that breaks a rule is left out, with all that it leads to
-  pub omits : (ms : List Waiting) (m : Waiting) (nodes : List Waiting) (left : List (Visit × Fault)) (fault : Fault) → IsSurveying image (ms ++ m ∷ []) nodes left → first_broken (rows_of image nodes m) ≡ Some fault
-      → (v : Visit) × (v.place ≡ m.place) × (v.entry ≡ m.entry) × IsSurveying image ms nodes (left ++ (v, fault) ∷ [])
-  omits ms m nodes left fault u e =
+  pub omits : (ms : List Waiting) (m : Waiting) (nodes out : List Waiting) (left : List (Visit × Fault)) (fault : Fault) → IsSurveying image (ms ++ m ∷ []) nodes out left → first_broken (rows_of image nodes m) ≡ Some fault
+      → (v : Visit) × IsSurveying image ms nodes (out ++ m ∷ []) (left ++ (v, fault) ∷ [])
+  omits ms m nodes out left fault u e =
       let n = next_of u.seen u.next ms m u.waits in (
         n.v,
-        sym n.met.place,
-        sym n.met.entry,
         record {
           seen = u.seen;
           next = n.rest;
           waits = n.others;
           found = u.found;
+          leaves = subst (λ vs. AreMet u.seen (out ++ m ∷ []) vs) (sym (map-append (λ (o : Visit × Fault). o.0) left ((n.v, fault) ∷ []))) (met-append u.seen out (m ∷ []) (visits_of left) (n.v ∷ []) u.leaves (n.met, tt));
           goes_on = λ outcome s. u.goes_on outcome (subst (λ todo. Survey (visit_rows image (is_wide image) (last_byte image)) (child_visits image) todo u.seen left outcome) (sym n.whole)
               (omitted {outcome = outcome} (ap first_broken (same_rows u.seen nodes m n.v u.found n.met) ∙ e) s));
         },
       )
 
   -- where none waits the survey has ended
-  pub ended : (nodes : List Waiting) (left : List (Visit × Fault)) → IsSurveying image [] nodes left → (seen : List Visit) × NodeSurvey image (seen, left) × AreMet seen nodes seen
-  ended nodes left u = (u.seen, by_list u.next u.waits u.goes_on, u.found)
+  pub ended : (nodes out : List Waiting) (left : List (Visit × Fault)) → IsSurveying image [] nodes out left → (seen : List Visit) × NodeSurvey image (seen, left) × AreMet seen nodes seen × AreMet seen out (visits_of left)
+  ended nodes out left u = (u.seen, by_list u.next u.waits u.goes_on, u.found, u.leaves)
     where
       by_list : (next : List Visit) → AreMet u.seen [] next → ((outcome : Outcome) → Survey (visit_rows image (is_wide image) (last_byte image)) (child_visits image) next u.seen left outcome → NodeSurvey image outcome) → NodeSurvey image (u.seen, left)
       by_list [] h goes_on = goes_on (u.seen, left) surveyed

@@ -1,5 +1,5 @@
 -- The survey of the nodes of a damaged file, step by step, with a stack of those that wait.
-use Rattle.std.specs.Prelude.{ℕ, ◌+◌, List, [], ◌∷◌, reverse, None}
+use Rattle.std.specs.Prelude.{ℕ, ◌+◌, List, [], ◌∷◌, map, reverse, None}
 use Rattle.adf_format.specs.Checks.{Row, Fault, Survey}
 use Rattle.adf_format.specs.FirstFault.{Visit, child_visits, visit_rows, root_visit, is_wide}
 use Rattle.adf_format.specs.SoundPart.{last_byte}
@@ -23,10 +23,15 @@ abbrev pub rows_of : List ℕ → List Waiting → Waiting → List Row
 rows_of image kept m =
     node_rows_at image (is_wide image) (last_byte image) (is_known kept m.place) (266 + total_length (met_extents image (is_wide image) kept)) m.place m.entry m.depth
 
--- Some nodes are kept and some left out, and those of the stack wait, the next one last: how the survey goes on from here is how it ends.
-pub record IsSurveying (image : List ℕ) (stack kept : List Waiting) (left : List (Visit × Fault)) : Type 0 where
+-- the nodes that are left out
+abbrev pub visits_of : List (Visit × Fault) → List Visit
+visits_of left = map (λ (o : Visit × Fault). o.0) left
+
+-- Some nodes are kept and others left out, and those of the stack wait, the next one last: how the survey goes on from here is how it ends.
+pub record IsSurveying (image : List ℕ) (stack kept out : List Waiting) (left : List (Visit × Fault)) : Type 0 where
   pub seen : List Visit
   pub next : List Visit
   pub waits : AreMet seen (reverse stack) next
   pub found : AreMet seen kept seen
+  pub leaves : AreMet seen out (visits_of left)
   pub goes_on : (outcome : Outcome) → Survey (visit_rows image (is_wide image) (last_byte image)) (child_visits image) next seen left outcome → NodeSurvey image outcome
