@@ -86,7 +86,7 @@ module _ (core : Core) (node : NodeId) where
 
     pub unread_cause : (held : Option (List ℕ)) (before now : ℕ) (e : AdfError) → IsUnread (HeaderBreaks core.wide held row.place) before now e → IsNodeCause core node held before now e
     unread_cause held before now error.ReadFault h = (row_there (named_row core node) row found, h)
-    unread_cause held before now (error.Layout rule at) h = at_row (named_row core node) row (λ r. HeaderBreaks core.wide held r.place rule at) found h
+    unread_cause held before now (error.Layout rule at) h = (row_there (named_row core node) row found, at_row (named_row core node) row (λ r. HeaderBreaks core.wide held r.place rule at) found h)
     unread_cause held before now other h = absurd h
 
     module _ (header : NodeHeader) (held : Option (List ℕ)) (r : ReadAt held row.place (node_length core.wide) (IsHeader core.wide row.place None header)) where

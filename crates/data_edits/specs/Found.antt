@@ -51,7 +51,7 @@ WaitsAtMost edit was before now old =
 abbrev pub IsNodeCause : Core → NodeId → Option (List ℕ) → ℕ → ℕ → AdfError → Type 0
 IsNodeCause core node held before now error.ReadFault = IsSome (named_row core node) × Rose before now
 IsNodeCause core node held before now (error.Layout rule at) =
-    IfSome (named_row core node) (λ row. HeaderBreaks core.wide held row.place rule at)
+    IsSome (named_row core node) × IfSome (named_row core node) (λ row. HeaderBreaks core.wide held row.place rule at)
 IsNodeCause core node held before now error.NoSuchNode = named_row core node ≡ None
 IsNodeCause core node held before now error.LinkMissing =
     (row : Row) × (header : NodeHeader) × ReadsNode core node held row header × (is_lk header.kind ≡ true)

@@ -130,7 +130,6 @@ pub fn put_all<S: Space>(
 ) -> Result<(), AdfError>
     requires sound { S.is_sound space.old }
     requires near { AreNear core.old.wide core.old.rows.items }
-    requires heap { IsHeap core.old.heap.work.heap }
     requires means { IfSome (S.image space.old)
         (λ bytes. (tree : Tree) × (p : Placement) × Means bytes tree p (memory_of core.old)) }
     ensures done { OnOk result (Both (Does (Edit.PutAll node bytes.now) core.old core.new)
@@ -151,6 +150,7 @@ pub fn put_all<S: Space>(
     ensures cause { IfErr result (IsPutCause core.old node Part.Whole bytes.now
         (S.image space.old) (S.state space.old).faults (S.state space.new).faults) }
 {
+    core.heap.is_heap();
     let data = match find_data(space, core, node) {
         Ok(data) => data,
         Err(error) => return Err(error),
@@ -177,7 +177,6 @@ pub fn put_part<S: Space>(
 ) -> Result<(), AdfError>
     requires sound { S.is_sound space.old }
     requires near { AreNear core.old.wide core.old.rows.items }
-    requires heap { IsHeap core.old.heap.work.heap }
     requires means { IfSome (S.image space.old)
         (λ bytes. (tree : Tree) × (p : Placement) × Means bytes tree p (memory_of core.old)) }
     ensures done { OnOk result (Both (Does (Edit.PutPart node selection.now bytes.now)
@@ -199,6 +198,7 @@ pub fn put_part<S: Space>(
     ensures cause { IfErr result (IsPutCause core.old node (Part.Chosen selection.now) bytes.now
         (S.image space.old) (S.state space.old).faults (S.state space.new).faults) }
 {
+    core.heap.is_heap();
     let data = match find_data(space, core, node) {
         Ok(data) => data,
         Err(error) => return Err(error),

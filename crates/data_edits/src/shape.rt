@@ -248,7 +248,6 @@ pub fn set_dims<S: Space>(
 ) -> Result<(), AdfError>
     requires sound { S.is_sound space.old }
     requires near { AreNear core.old.wide core.old.rows.items }
-    requires heap { IsHeap core.old.heap.work.heap }
     requires means { IfSome (S.image space.old)
         (λ bytes. (tree : Tree) × (p : Placement) × Means bytes tree p (memory_of core.old)) }
     ensures done { OnOk result (Both (Does (Edit.SetDims node shape.now) core.old core.new)
@@ -268,6 +267,7 @@ pub fn set_dims<S: Space>(
     ensures cause { IfErr result (IsShapeCause core.old node shape.now (S.image space.old)
         (S.state space.old).faults (S.state space.new).faults) }
 {
+    core.heap.is_heap();
     let found = match find_node(space, core, node) {
         Ok(found) => found,
         Err(error) => return Err(error),
