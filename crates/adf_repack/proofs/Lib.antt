@@ -15,6 +15,7 @@ pub mod VersionLaws
 pub mod TextLaws
 pub mod GivenLaws
 pub mod OutcomeLaws
+pub mod NamedLaws
 pub mod RefusalLaws
 pub mod ChildLaws
 pub mod RoomLaws

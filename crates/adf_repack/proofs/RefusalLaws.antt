@@ -1,10 +1,11 @@
 -- Why a copy is refused, by the tree that the given nodes make.
-use Rattle.std.proofs.Common.{◌≡◌, ◌⊎◌, ℕ, ◌+◌, ◌-◌, ◌≤◌, List, [], ◌∷◌, sym, ◌∙◌, ap, subst, arith, inl, inr, Bool, true, false, Option, None, Some}
+use Rattle.std.proofs.Common.{◌≡◌, ◌⊎◌, ℕ, ◌+◌, ◌-◌, ◌≤◌, List, [], ◌∷◌, length, sym, ◌∙◌, ap, subst, arith, inl, inr, Bool, true, false, Option, None, Some}
 use Rattle.adf_format.specs.FirstFault.{header_rows as file_rows}
 use Rattle.adf_format.specs.Packed.{packed_length, packed_nodes}
 use Rattle.adf_format.specs.Parts.{node_length}
+use Rattle.adf_format.specs.RuleNumbers.{IsRule}
 use Rattle.adf_format.specs.Tree.{Tree, Node}
-use Rattle.adf_model.specs.Counts.{OnlyReads}
+use Rattle.adf_model.specs.Counts.{NoCountFell, OnlyReads}
 use Rattle.adf_model.specs.declared.error.AdfError.{AdfError}
 use Rattle.adf_model.specs.declared.error.AdfError.TheVariants as error
 use Rattle.cg_io.specs.Device.{DeviceState, Reads}
@@ -12,15 +13,17 @@ use Rattle.layout_lint.specs.declared.verdict.NodePlace.{NodePlace}
 use Rattle.adf_repack.specs.declared.places.NodeShape.{NodeShape}
 use Rattle.adf_repack.specs.declared.planning.Planned.{Planned}
 use Rattle.adf_repack.specs.Copies.{IsUnwritten}
+use Rattle.adf_repack.specs.Families.{children_of}
 use Rattle.adf_repack.specs.Given.{in_version, IsGiven}
 use Rattle.adf_repack.specs.Measures.{AreUnmeasured, HoldsNone}
 use Rattle.adf_repack.specs.Places.{length_of}
 use Rattle.adf_repack.specs.Planning.{IsRoomFor, IsPlanned, IsUnplanned}
-use Rattle.adf_repack.specs.Plans.{BreaksOne}
+use Rattle.adf_repack.specs.Plans.{BreaksOne, old_place}
 use Rattle.adf_repack.specs.Repacks.{IsLicensed, wants_memory, unread, unasked, unwritten, not_laid_out, too_long_dimension, not_empty, too_long, IsRefused, IsWritten, LeavesDevice, HasLongDimension}
 use Rattle.adf_repack.specs.Sources.{IsUnread, IsBroken}
 use Rattle.adf_repack.specs.Writers.{OnlyWrites, WritesBlocks, raised_by, blocks_for}
 use Rattle.adf_repack.proofs.GivenLaws.{unbroken, measured, one_long, none_long, shapes_are, all_kept}
+use Rattle.adf_repack.proofs.NamedLaws.{file_named, shape_named}
 use Rattle.adf_repack.proofs.OutcomeLaws.{fits, near}
 use Rattle.adf_repack.proofs.PlaceLaws.{length_is}
 
@@ -33,12 +36,12 @@ module _ (wide to : Bool) (nodes : List NodePlace) (source source_after device d
   -- before the first write
   pub unplanned_licensed : OnlyReads device device_after → IsUnplanned wide to nodes source source_after device device_after e → IsLicensed source source_after device device_after e
   unplanned_licensed asks (inl (inl u)) = subst Licensed (sym u.is) (unread u.rose)
-  unplanned_licensed asks (inl (inr b)) = subst Licensed (sym b.is) (not_laid_out b.rule b.place)
+  unplanned_licensed asks (inl (inr b)) = subst Licensed (sym b.is) (not_laid_out b.rule b.place (file_named source.held b.rule b.place b.so))
   unplanned_licensed asks (inr (inl (inl m))) = subst Licensed (sym m) wants_memory
   unplanned_licensed asks (inr (inl (inr u))) = elim u.why [
     | inl r ↦ subst Licensed (sym r.is) (unread r.rose)
     | inr other ↦ elim other [
-      | inl b ↦ subst Licensed (sym b.is) (not_laid_out b.rule b.place)
+      | inl b ↦ subst Licensed (sym b.is) (not_laid_out b.rule b.place (shape_named source.held wide (old_place nodes u.number) (length (children_of nodes u.number)) b.rule b.place b.so))
       | inr long ↦ subst Licensed (sym long.0) too_long_dimension
     ]
   ]
@@ -51,24 +54,34 @@ module _ (wide to : Bool) (nodes : List NodePlace) (source source_after device d
   ]
 
 -- while it is written
-pub late_licensed : (broken : ℕ → ℕ → Type 0) (source middle source_after device asked device_after : DeviceState) (e : AdfError) → OnlyReads source middle → OnlyReads device asked
+pub late_licensed : (broken : ℕ → ℕ → Type 0) (source middle source_after device asked device_after : DeviceState) (e : AdfError) → ((rule at : ℕ) → broken rule at → IsRule rule)
+    → OnlyReads source middle → OnlyReads device asked
     → IsUnread middle.faults source_after.faults e ⊎ (IsUnwritten asked device_after e ⊎ IsBroken broken e) → IsLicensed source source_after device device_after e
-late_licensed broken source middle source_after device asked device_after e reads asks (inl u) =
+late_licensed broken source middle source_after device asked device_after e named reads asks (inl u) =
     subst (IsLicensed source source_after device device_after) (sym u.is) (unread (let rose = u.rose in let later = reads.faults in omega (arith, rose, later)))
-late_licensed broken source middle source_after device asked device_after e reads asks (inr (inl w)) =
+late_licensed broken source middle source_after device asked device_after e named reads asks (inr (inl w)) =
     let lost = w.lost in
     let same = asks.lost in
     let rose = w.faults in
     let later = asks.faults in
     subst (IsLicensed source source_after device device_after) (sym w.is) (unwritten (omega (arith, rose, later)) (omega (arith, lost, same)))
-late_licensed broken source middle source_after device asked device_after e reads asks (inr (inr b)) =
-    subst (IsLicensed source source_after device device_after) (sym b.is) (not_laid_out b.rule b.place)
+late_licensed broken source middle source_after device asked device_after e named reads asks (inr (inr b)) =
+    subst (IsLicensed source source_after device device_after) (sym b.is) (not_laid_out b.rule b.place (named b.rule b.place b.so))
 
-pub late_left : (broken : ℕ → ℕ → Type 0) (before now : ℕ) (device asked device_after : DeviceState) (e : AdfError) → HoldsNone device.held
+pub late_left : (broken : ℕ → ℕ → Type 0) (before now : ℕ) (device asked device_after : DeviceState) (e : AdfError) → HoldsNone device.held → NoCountFell device device_after
     → IsUnread before now e ⊎ (IsUnwritten asked device_after e ⊎ IsBroken broken e) → LeavesDevice device device_after e
-late_left broken before now device asked device_after e none (inl u) = inr (none, inl u.is)
-late_left broken before now device asked device_after e none (inr (inl w)) = inr (none, inr (inl w.is))
-late_left broken before now device asked device_after e none (inr (inr b)) = inr (none, inr (inr (b.rule, b.place, b.is)))
+late_left broken before now device asked device_after e none counts (inl u) = inr (none, counts, inl u.is)
+late_left broken before now device asked device_after e none counts (inr (inl w)) = inr (none, counts, inr (inl w.is))
+late_left broken before now device asked device_after e none counts (inr (inr b)) = inr (none, counts, inr (inr (b.rule, b.place, b.is)))
+
+-- no count fell while the device was asked, and none while it was written
+pub no_count_fell : (device asked device_after : DeviceState) → OnlyReads device asked → NoCountFell asked device_after → NoCountFell device device_after
+no_count_fell device asked device_after asks rises = record {
+  faults = let a = asks.faults in let b = rises.faults in omega (arith, a, b);
+  lost = let a = asks.lost in let b = rises.lost in omega (arith, a, b);
+  reads = let a = asks.reads in let b = rises.reads in omega (arith, a, b);
+  writes = let a = asks.writes in let b = rises.writes in omega (arith, a, b);
+}
 
 -- ---- lengths
 
@@ -234,8 +247,9 @@ module _ (image : List ℕ) (nodes : List NodePlace) (tree : Tree) (given : IsGi
 -- ---- what was written
 
 pub written_so : (device asked device_after : DeviceState) (size end : ℕ) → end + 1 ≡ size → Reads device asked → WritesBlocks 0 (blocks_for size) asked device_after → OnlyWrites asked device_after
-    → IsWritten device device_after end
-written_so device asked device_after size end is reads wrote effect = record {
+    → NoCountFell device device_after → IsWritten device device_after end
+written_so device asked device_after size end is reads wrote effect counts = record {
   blocks = subst (λ (n : ℕ). WritesBlocks 0 (blocks_for n) device device_after) (sym is) (record { ahead = wrote.ahead; writes = (let same = reads.writes in let many = wrote.writes in many ∙ ap (raised_by (blocks_for size - 0)) same) });
   reads = effect.reads ∙ reads.reads;
+  counts = counts;
 }

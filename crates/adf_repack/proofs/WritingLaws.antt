@@ -1,9 +1,10 @@
 -- What stands on a device behind a copy that was written.
 use Rattle.std.proofs.Common.{◌≡◌, ◌⊎◌, ℕ, ◌+◌, ◌*◌, List, [], ◌++◌, length, refl, sym, ◌∙◌, ap, subst, arith, inl, inr, Bool, Option, None, Some, Ok, Err, IfSome}
-use Rattle.std.specs.Prelude.{option_map}
+use Rattle.std.specs.Prelude.{Result, option_map}
 use Rattle.std.specs.List.{sum_by}
 use Rattle.std.proofs.lemmas.List.{take_all}
 use Rattle.adf_format.specs.Tree.{Tree}
+use Rattle.adf_model.specs.Counts.{NoCountFell}
 use Rattle.adf_model.specs.declared.error.AdfError.{AdfError}
 use Rattle.cg_io.specs.Device.{DeviceState}
 use Rattle.layout_lint.specs.declared.verdict.NodePlace.{NodePlace}
@@ -61,6 +62,17 @@ module _ {B E : Type 0} (is_sound : B → Type 0) (source : B → DeviceState) (
     held = λ image e bytes told. held_so (target device).held (state_under target new).held (text image) bytes empty
         (w.held image e ∙ ap (λ (o : Option (List ℕ)). option_map in_blocks (with_more o (text image))) appended) (ap (λ (d : E). (target d).held) (sym ends) ∙ told);
   }
+
+  pub counts_so : (result : Result Unit AdfError) → Writes is_sound source target broken n text before after page old new result → NoCountFell (target device) (target last)
+  counts_so result w =
+      let effect = w.effect in
+      let kept : NoCountFell (state_under target old) (state_under target new) = record {
+        faults = w.later;
+        lost = w.lost;
+        reads = (let same = effect.reads in omega (arith, same));
+        writes = effect.writes;
+      } in
+      subst (λ (d : E). NoCountFell (target device) (target d)) (sym ends) (subst (λ (d : E). NoCountFell (target d) (state_under target new)) is kept)
 
   pub ends_badly : (e : AdfError) → Writes is_sound source target broken n text before after page old new (Err e)
       → IsUnread (source before).faults (source after).faults e ⊎ (IsUnwritten (target device) (target last) e ⊎ IsBroken broken e)

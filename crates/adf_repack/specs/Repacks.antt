@@ -5,12 +5,13 @@ use Rattle.adf_format.specs.FirstFault.{FirstFault}
 use Rattle.adf_format.specs.LaysOut.{LaysOut}
 use Rattle.adf_format.specs.Packed.{IsPacked, packed_length}
 use Rattle.adf_format.specs.Placement.{Placement}
+use Rattle.adf_format.specs.RuleNumbers.{IsRule}
 use Rattle.adf_format.specs.Tree.{Tree, Node, node_at}
 use Rattle.adf_model.specs.declared.error.AdfError.{AdfError}
 use Rattle.adf_model.specs.declared.error.AdfError.TheVariants as error
 use Rattle.cg_io.specs.Cause.{Rose, raised}
 use Rattle.cg_io.specs.Device.{DeviceState}
-use Rattle.adf_model.specs.Counts.{OnlyReads}
+use Rattle.adf_model.specs.Counts.{NoCountFell, OnlyReads}
 use Rattle.adf_repack.specs.declared.whole.Target.{Target}
 use Rattle.adf_repack.specs.declared.whole.Target.TheVariants as target
 use Rattle.adf_repack.specs.Given.{in_version}
@@ -52,10 +53,11 @@ pub record IsCopied (wide : Bool) (tree : Tree) (held : Option (List ℕ)) (end 
   pub long : end + 1 ≡ packed_length (in_version wide tree)
   pub file : WhereTold held (λ bytes. IsPackedFile (in_version wide tree) bytes end)
 
--- each block up to the end was written once, and the device was read only to ask for its length
+-- each block up to the end was written once, the device was read only to ask for its length, and no count fell
 pub record IsWritten (old new : DeviceState) (end : ℕ) : Type 0 where
   pub blocks : WritesBlocks 0 (blocks_for (end + 1)) old new
   pub reads : new.reads ≡ raised old.reads
+  pub counts : NoCountFell old new
 
 -- ---- refusals
 
@@ -65,7 +67,7 @@ pub data IsLicensed (source source_after device device_after : DeviceState) : Ad
   unread : Rose source.faults source_after.faults → IsLicensed source source_after device device_after error.ReadFault
   unasked : Rose device.faults device_after.faults → device_after.lost ≡ device.lost → IsLicensed source source_after device device_after error.ReadFault
   unwritten : Rose device.faults device_after.faults → Rose device.lost device_after.lost → IsLicensed source source_after device device_after error.WriteFault
-  not_laid_out : (rule place : ℕ) → IsLicensed source source_after device device_after (error.Layout rule place)
+  not_laid_out : (rule place : ℕ) → IsRule rule → IsLicensed source source_after device device_after (error.Layout rule place)
   too_long_dimension : IsLicensed source source_after device device_after error.BadShape
   not_empty : HoldsSome device.held → IsLicensed source source_after device device_after error.NotEmpty
   too_long : (asked : ℕ) → 2 ^ 44 < asked → HoldsNone device.held → IsLicensed source source_after device device_after (error.Full asked 0)
@@ -83,9 +85,9 @@ pub record IsRefused (wide : Bool) (tree : Tree) (e : AdfError) : Type 0 where
 abbrev pub MayComeLate : AdfError → Type 0
 MayComeLate e = (e ≡ error.ReadFault) ⊎ ((e ≡ error.WriteFault) ⊎ ((rule : ℕ) × (place : ℕ) × (e ≡ error.Layout rule place)))
 
--- a refusal leaves the device, or this held nothing and the refusal may come late
+-- a refusal leaves the device; or this held nothing, no count of it fell, and the refusal may come late
 abbrev pub LeavesDevice : DeviceState → DeviceState → AdfError → Type 0
-LeavesDevice old new e = OnlyReads old new ⊎ (HoldsNone old.held × MayComeLate e)
+LeavesDevice old new e = OnlyReads old new ⊎ (HoldsNone old.held × NoCountFell old new × MayComeLate e)
 
 -- ---- a whole file
 

@@ -3,7 +3,7 @@
 ghost use Rattle.std.specs.Prelude.{◌≡◌, ◌⊎◌, ℕ, ◌+◌, ◌^◌, ◌<◌, ◌≤◌, length, IfOk, IfErr, OnOk};
 ghost use Rattle.adf_format.specs.Parts.{node_length};
 ghost use Rattle.adf_format.specs.Tree.{Tree};
-ghost use Rattle.adf_model.specs.Counts.{OnlyReads};
+ghost use Rattle.adf_model.specs.Counts.{NoCountFell, OnlyReads};
 ghost use Rattle.adf_repack.specs.Copies.{IsUnwritten};
 ghost use Rattle.adf_repack.specs.Families.{AreParents};
 ghost use Rattle.adf_repack.specs.Given.{IsGiven};
@@ -184,6 +184,8 @@ fn write_planned<B: Blocks, E: Device>(
     ensures wrote { IfOk result (λ p. WritesBlocks 0 (blocks_for planned.now.length)
         (E.state device) (E.state p.device)) }
     ensures effect { IfOk result (λ p. OnlyWrites (E.state device) (E.state p.device)) }
+    ensures counts { IfOk result (λ p. NoCountFell (E.state device) (E.state p.device)) }
+    ensures fell { IfErr result (λ e. NoCountFell (E.state device) (E.state e.1)) }
     ensures held { IfOk result (λ p. WhereTold (B.state blocks.old).held
         (λ image. WhereTold (E.state p.device).held
         (λ held. held ≡ in_blocks (copied_file image wide nodes.now planned.now)))) }

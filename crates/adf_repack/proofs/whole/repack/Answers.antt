@@ -52,7 +52,7 @@ returns-in-Ok-Unsound-clause-refused g c image e =
     }))
 
 pub returns-in-Ok-Unsound-clause-licensed : goal.returns-in-Ok-Unsound-clause-licensed
-returns-in-Ok-Unsound-clause-licensed g c = not_laid_out c.in-Ok-Unsound.rule c.in-Ok-Unsound.place
+returns-in-Ok-Unsound-clause-licensed g c = not_laid_out c.in-Ok-Unsound.rule c.in-Ok-Unsound.place (rw c.in-Ok-Unsound.field-0-is at c.in-Ok-Unsound.ensures.rule)
 
 pub returns-clause-licensed : goal.returns-clause-licensed
 returns-clause-licensed g c =

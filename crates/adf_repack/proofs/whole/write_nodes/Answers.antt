@@ -4,7 +4,8 @@ use Rattle.adf_repack.specs.Plans.{BreaksOne}
 use Rattle.adf_repack.specs.Repacks.{IsCopied, IsRefused}
 use Rattle.adf_repack.specs.Writers.{in_blocks}
 use Rattle.adf_repack.proofs.OutcomeLaws.{copied_so}
-use Rattle.adf_repack.proofs.RefusalLaws.{unplanned_licensed, unplanned_refused, late_licensed, late_refused, written_so}
+use Rattle.adf_repack.proofs.NamedLaws.{one_named}
+use Rattle.adf_repack.proofs.RefusalLaws.{unplanned_licensed, unplanned_refused, late_left, late_licensed, late_refused, no_count_fell, written_so}
 use Rattle.adf_repack.proofs.WritingLaws.{planned_as, broken_as}
 use Rattle.adf_repack.proofs.whole.write_nodes.Goals as goal
 
@@ -36,6 +37,7 @@ pub returns-in-Ok-write_planned-clause-written : goal.returns-in-Ok-write_planne
 returns-in-Ok-write_planned-clause-written g c =
     written_so (g.E.Device.state c.args.device) (g.E.Device.state c.plan_copy.new.device) (g.E.Device.state c.in-Ok-write_planned.packed.device) c.in-Ok.planned.length c.in-Ok-write_planned.packed.end
     c.in-Ok-write_planned.ensures.end c.in-Ok.ensures.asked c.in-Ok-write_planned.ensures.wrote c.in-Ok-write_planned.ensures.effect
+    (no_count_fell (g.E.Device.state c.args.device) (g.E.Device.state c.plan_copy.new.device) (g.E.Device.state c.in-Ok-write_planned.packed.device) c.plan_copy.ensures.asks c.in-Ok-write_planned.ensures.counts)
 
 pub returns-in-Ok-write_planned-clause-packed : goal.returns-in-Ok-write_planned-clause-packed
 returns-in-Ok-write_planned-clause-packed g c image e tree given width =
@@ -54,7 +56,14 @@ returns-clause-licensed g c =
     late_licensed (BreaksOne (g.B.Blocks.state c.plan_copy.new.blocks).held c.args.wide c.args.nodes.now c.in-Ok.planned.plan)
     (g.B.Blocks.state c.args.blocks.now) (g.B.Blocks.state c.plan_copy.new.blocks) (g.B.Blocks.state c.write_planned.new.blocks)
     (g.E.Device.state c.args.device) (g.E.Device.state c.plan_copy.new.device) (g.E.Device.state c.in-Err-write_planned.refused.1) c.in-Err-write_planned.refused.0
-    c.plan_copy.ensures.reads c.plan_copy.ensures.asks c.in-Err-write_planned.ensures.cause
+    (one_named (g.B.Blocks.state c.plan_copy.new.blocks).held c.args.wide c.args.nodes.now c.in-Ok.planned.plan) c.plan_copy.ensures.reads c.plan_copy.ensures.asks c.in-Err-write_planned.ensures.cause
+
+pub returns-clause-left : goal.returns-clause-left
+returns-clause-left g c =
+    late_left (BreaksOne (g.B.Blocks.state c.plan_copy.new.blocks).held c.args.wide c.args.nodes.now c.in-Ok.planned.plan) (g.B.Blocks.state c.plan_copy.new.blocks).faults (g.B.Blocks.state c.write_planned.new.blocks).faults
+    (g.E.Device.state c.args.device) (g.E.Device.state c.plan_copy.new.device) (g.E.Device.state c.in-Err-write_planned.refused.1) c.in-Err-write_planned.refused.0 c.in-Ok.ensures.none
+    (no_count_fell (g.E.Device.state c.args.device) (g.E.Device.state c.plan_copy.new.device) (g.E.Device.state c.in-Err-write_planned.refused.1) c.plan_copy.ensures.asks c.in-Err-write_planned.ensures.fell)
+    c.in-Err-write_planned.ensures.cause
 
 pub returns-clause-refused : goal.returns-clause-refused
 returns-clause-refused g c image e tree given width =
