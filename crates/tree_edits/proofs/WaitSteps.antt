@@ -10,9 +10,11 @@ use Rattle.adf_format.specs.Parts.{table_length}
 use Rattle.adf_format.specs.Placement.{Heap, extent}
 use Rattle.cg_io.specs.Blocks.{Both}
 use Rattle.field_access.specs.Fields.{IsWithin, WaitsWithin, range}
-use Rattle.field_access.proofs.WaitLaws.{within_then, within_left, within_right, within_range, within_later, waits_then, waits_wider}
+use Rattle.field_access.proofs.WaitLaws.{within_then, within_left, within_right, within_range, within_later, waits_then, waits_wider, within_both}
 use Rattle.node_reads.specs.declared.header.ChildTable.{ChildTable}
+use Rattle.tree_edits.specs.declared.listed.Listed.{Listed}
 use Rattle.tree_edits.specs.Joined.{extents_of_table}
+use Rattle.tree_edits.specs.Left.{entry_place, length_behind}
 use Rattle.tree_edits.specs.Waiting.{WaitsInRoom, IfTold, list_ranges}
 use Rattle.tree_edits.proofs.Waiting.{more_own, one_given}
 
@@ -65,6 +67,19 @@ part_of_table table at n some low high =
 
 pub entry_within : (table : ChildTable) (i : ℕ) → i < table.entries → IsWithin (range (table.place + 16 + 44 * i) 44 ∷ []) (extents_of_table table)
 entry_within table i lt = part_of_table table (table.place + 16 + 44 * i) 44 (omega (arith, lt)) (omega arith) (omega (arith, lt))
+
+-- the entries from a child's own on
+pub behind_own : (listed : Listed) → listed.position < listed.table.count → listed.table.count ≤ listed.table.entries → IsWithin (range (entry_place listed) (length_behind listed) ∷ []) (extents_of_table listed.table)
+behind_own listed lt le = part_of_table listed.table (entry_place listed) (length_behind listed) (omega (arith, lt, le)) (omega arith) (omega (arith, lt, le))
+
+-- an entry leaves its list
+pub left_waits : (header : ℕ) (listed : Listed) (x y : List ℕ) → listed.position < listed.table.count → listed.table.count ≤ listed.table.entries
+    → WaitsWithin (range (entry_place listed) (length_behind listed) ∷ range (header + 68) 8 ∷ []) x y → WaitsWithin (list_ranges header listed.table) x y
+left_waits header listed x y lt le w =
+    waits_wider ((range (entry_place listed) (length_behind listed) ∷ []) ++ range (header + 68) 8 ∷ []) (list_ranges header listed.table) x y
+    (within_both (range (entry_place listed) (length_behind listed) ∷ []) (range (header + 68) 8 ∷ []) (list_ranges header listed.table)
+    (within_later (range (header + 68) 28) (range (entry_place listed) (length_behind listed) ∷ []) (extents_of_table listed.table) (behind_own listed lt le))
+    (fields_within header 68 8 listed.table (omega arith) (omega arith))) w
 
 -- its entries and then its count are written
 pub entry_waits : (header : ℕ) (table : ChildTable) (i : ℕ) (x y z : List ℕ) → i < table.entries → WaitsWithin (range (table.place + 16 + 44 * i) 44 ∷ []) x y → WaitsWithin (range (header + 68) 8 ∷ []) y z → WaitsWithin (list_ranges header table) x z

@@ -17,11 +17,12 @@ use Rattle.adf_format.proofs.HeapSteps.{cover-append, cover-take, take_end}
 use Rattle.adf_model.specs.declared.tree.Edit.{Edit}
 use Rattle.adf_model.specs.Untouched.{touched_extents, header_extent, table_of}
 use Rattle.adf_model.proofs.Creation.PartsApart.{range_within}
+use Rattle.cg_io.specs.Waits.{WaitsOnly}
 use Rattle.field_access.specs.Fields.{IsWithin, WaitsWithin, range}
 use Rattle.field_access.proofs.WaitLaws.{within_then, within_none, within_left, within_right, within_both, waits_none, waits_then, waits_wider}
 use Rattle.node_reads.specs.declared.header.ChildTable.{ChildTable}
 use Rattle.tree_laws.specs.MidEdit.{room}
-use Rattle.tree_laws.specs.Reached.{LieInTouched, LiesInTouched}
+use Rattle.tree_laws.specs.Reached.{CanReach, LieInTouched, LiesInTouched}
 use Rattle.tree_laws.proofs.Edits.LabelDone.{range_holds}
 use Rattle.tree_laws.proofs.Holding.OwnRanges.{least}
 use Rattle.tree_laws.proofs.Whole.Reached.{room_may_be_written, both_lie, one_lies, header_live, table_live, table_among}
@@ -38,7 +39,7 @@ use Rattle.tree_edits.proofs.Kids.{own, entries_are, place_is}
 
 -- ---- the room of an edit
 
-room_cover : (own : List Extent) (a b : Heap) (k : ℕ) → cover (room own a b) k ≡ cover a.gaps k + (in_range (a.end + 1) (b.end - a.end) k + cover own k)
+pub room_cover : (own : List Extent) (a b : Heap) (k : ℕ) → cover (room own a b) k ≡ cover a.gaps k + (in_range (a.end + 1) (b.end - a.end) k + cover own k)
 room_cover own a b k = cover-append a.gaps (extent ExtentKind.Filler (a.end + 1) (b.end - a.end) ∷ own) k
 
 own_in_room : (own : List Extent) (a b : Heap) → IsWithin own (room own a b)
@@ -214,14 +215,20 @@ module _ (image : List ℕ) (core : Core) (serial : ℕ) (row : Row) (found : ro
 
 -- ---- the clauses of edits
 
-module _ (edit : Edit) (was now : Core) (ranges : List Extent) (x y : List ℕ) (w : WaitsInRoom ranges was.heap.work.heap now.heap.work.heap x y) where
-  pub reaches_room : (image : List ℕ) → ((tree : Tree) (p : Placement) → Means image tree p (memory_of was) → LieInTouched ranges (touched_extents tree p edit) tree.wide p) → Reaches edit was now x y image
-  reaches_room image lie tree p m n waits = elim (w.only.only n waits) [
-    | inl is ↦ inl is
-    | inr at ↦ inr (
-      at.byte,
-      at.block,
-      room_may_be_written image tree p (touched_extents tree p edit) ranges now.heap.work.heap m.laid_out (subst (λ (h : Heap). h.end ≤ now.heap.work.heap.end) (sym m.heap) w.grows) (lie tree p m) at.byte
-          (subst (λ (h : Heap). 0 < cover (heap_fields ++ room ranges h now.heap.work.heap) at.byte) (sym m.heap) at.own),
-    )
-  ]
+-- of one tree and placement
+pub reaches_at : (edit : Edit) (was now : Core) (ranges : List Extent) (x y : List ℕ) → WaitsInRoom ranges was.heap.work.heap now.heap.work.heap x y → (image : List ℕ) (tree : Tree) (p : Placement) → Means image tree p (memory_of was)
+    → LieInTouched ranges (touched_extents tree p edit) tree.wide p → WaitsOnly (CanReach (touched_extents tree p edit) tree.wide p now.heap.work.heap.end) x y
+reaches_at edit was now ranges x y w image tree p m lie = λ n waits. elim (w.only.only n waits) [
+  | inl is ↦ inl is
+  | inr at ↦ inr (
+    at.byte,
+    at.block,
+    room_may_be_written image tree p (touched_extents tree p edit) ranges now.heap.work.heap m.laid_out (subst (λ (h : Heap). h.end ≤ now.heap.work.heap.end) (sym m.heap) w.grows) lie at.byte
+        (subst (λ (h : Heap). 0 < cover (heap_fields ++ room ranges h now.heap.work.heap) at.byte) (sym m.heap) at.own),
+  )
+]
+
+-- of each
+pub reaches_room : (edit : Edit) (was now : Core) (ranges : List Extent) (x y : List ℕ) → WaitsInRoom ranges was.heap.work.heap now.heap.work.heap x y → (image : List ℕ)
+    → ((tree : Tree) (p : Placement) → Means image tree p (memory_of was) → LieInTouched ranges (touched_extents tree p edit) tree.wide p) → Reaches edit was now x y image
+reaches_room edit was now ranges x y w image lie tree p m = reaches_at edit was now ranges x y w image tree p m (lie tree p m)
