@@ -11,7 +11,7 @@ use Rattle.adf_format.specs.Hex.{hex_text}
 use Rattle.adf_format.specs.HeapRule.{give_all}
 use Rattle.adf_format.specs.Parts.{node_length, table_length}
 use Rattle.adf_format.specs.Tiles.{cover, end_of}
-use Rattle.adf_format.specs.Tree.{Tree, Node, node_at, is_live, children_at, parent_of}
+use Rattle.adf_format.specs.Tree.{Tree, Node, node_at, is_live, children_at, parent_of, subtree}
 use Rattle.adf_format.specs.Placement.{Placement, NodeParts, TablePart, extent, parts_of, extents_of, head_extents, live_extents, all_extents}
 use Rattle.adf_format.proofs.BehindEnd.{AllLong}
 use Rattle.adf_format.proofs.HeapLaws.{in_range}
@@ -150,7 +150,7 @@ module _ (image : List ℕ) (core : Core) (node : NodeId) where
           abbrev after : Tree
           after = without tree parent node.serial
 
-          its_parent : parent_of tree node.serial ≡ Some parent
+          pub its_parent : parent_of tree node.serial ≡ Some parent
           its_parent = over image core node.serial row found parent above tree p m
 
           made : file_step core.writable tree edit ≡ Ok after
@@ -238,11 +238,13 @@ module _ (image : List ℕ) (core : Core) (node : NodeId) where
           abbrev parts : List NodeParts
           parts = parts_list image tree p nodes each
 
-          given_is : parts_extents core.wide parts ≡ given
-          given_is =
+          parts_are : parts_extents core.wide parts ≡ flat_map (λ serial. extents_of tree.wide (parts_of p serial)) (subtree tree node.serial)
+          parts_are =
               ap (λ w. parts_extents w parts) (sym m.wide) ∙ extents_are image tree p tree.wide nodes each
               ∙ ap (flat_map (λ serial. extents_of tree.wide (parts_of p serial))) doomed.serials
-              ∙ sym (given_by_serial tree after p node m.laid_out.is_tree (let h = from_layout image tree p m.laid_out in h.same_nodes) applied)
+
+          given_is : parts_extents core.wide parts ≡ given
+          given_is = parts_are ∙ sym (given_by_serial tree after p node m.laid_out.is_tree (let h = from_layout image tree p m.laid_out in h.same_nodes) applied)
 
           one_each : (b : ℕ) → cover given b + (cover head_extents b + cover (live_extents after.wide r) b + cover p.heap.gaps b) ≤ 1
           one_each b = let x = now_taken in let o = once mid after r (given ++ []) x.1 b in let s = cover-append given [] b in omega (arith, o, s)
@@ -310,6 +312,11 @@ module _ (image : List ℕ) (core : Core) (node : NodeId) where
 
           abbrev may_parts : MayGiveAll (parts_extents core.wide parts) core.heap.work.heap
           may_parts = subst (λ es. MayGiveAll es core.heap.work.heap) (sym given_is) may_give
+
+          -- the parts that are given: they stand in the bytes, may be given, and are those of the subtree
+          pub gift : (all : List NodeParts) × AllStand mid all nodes × MayGiveAll (parts_extents core.wide all) core.heap.work.heap
+              × (parts_extents core.wide all ≡ flat_map (λ serial. extents_of tree.wide (parts_of p serial)) (subtree tree node.serial))
+          gift = (parts, stand_mid, may_parts, parts_are)
 
           pub not_given : MayNotGive core.wide nodes core.heap.work.heap (Some mid) → ⊥
           not_given none = none parts stand_mid may_parts

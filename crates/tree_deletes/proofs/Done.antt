@@ -81,7 +81,7 @@ module _ (core : Core) (node : NodeId) (up_row : Row) (l : Listed) (nodes : List
   Is held = IsDeletion core node held up_row l nodes
 
   -- the row of the parent is the one that the table was found by
-  left_there : (image mid : List ℕ) (d : Is (Some image)) → LeavesList up_row.place l image mid → LeavesList d.is.table.above.place l image mid
+  pub left_there : (image mid : List ℕ) (d : Is (Some image)) → LeavesList up_row.place l image mid → LeavesList d.is.table.above.place l image mid
   left_there image mid d left = subst (λ k. LeavesList k l image mid) (ap (λ (x : Row). x.place) (same_Some up_row d.is.table.above (sym d.found ∙ d.is.table.found))) left
 
   pub threads_then : (held mid : Option (List ℕ)) → Is held → IfSome held (λ bytes. (tree : Tree) × (p : Placement) × Means bytes tree p (memory_of core)) → Both (LeavesList up_row.place l) held mid → IfSome mid (IsThreaded core.heap.work)

@@ -66,14 +66,14 @@ no_round wide ds was (Some image) threads = λ parts s may. record {
 
 module _ (wide : Bool) where
   -- the parts that are next, and the rest
-  record Next (b : List ℕ) (i : ℕ) (parts : List NodeParts) (ds : List Doomed) (d : Doomed) : Type 0 where
-    own : NodeParts
-    rest : drop i parts ≡ own ∷ drop (suc i) parts
-    more : take (suc i) parts ≡ take i parts ++ own ∷ []
-    stands : Stands b own d
-    others : AllStand b (drop (suc i) parts) (drop (suc i) ds)
+  pub record Next (b : List ℕ) (i : ℕ) (parts : List NodeParts) (ds : List Doomed) (d : Doomed) : Type 0 where
+    pub own : NodeParts
+    pub rest : drop i parts ≡ own ∷ drop (suc i) parts
+    pub more : take (suc i) parts ≡ take i parts ++ own ∷ []
+    pub stands : Stands b own d
+    pub others : AllStand b (drop (suc i) parts) (drop (suc i) ds)
 
-  next : (b : List ℕ) (i : ℕ) (parts : List NodeParts) (ds : List Doomed) (x d : Doomed) → i < length ds → d ≡ get_or ds i x → AllStand b (drop i parts) (drop i ds) → Next b i parts ds d
+  pub next : (b : List ℕ) (i : ℕ) (parts : List NodeParts) (ds : List Doomed) (x d : Doomed) → i < length ds → d ≡ get_or ds i x → AllStand b (drop i parts) (drop i ds) → Next b i parts ds d
   next b i [] [] x d lt e s = absurd (omega (arith, lt))
   next b zero [] (y ∷ ds) x d lt e s = absurd s
   next b (suc i) [] (y ∷ ds) x d lt e s = absurd (none (drop i ds) (left ds i (omega (arith, lt))) s)

@@ -11,3 +11,5 @@ pub mod TableErased
 pub mod DeleteWhole
 pub mod Deleting
 pub mod Done
+pub mod GiftWaits
+pub mod DeleteReached

@@ -8,6 +8,7 @@ use Rattle.adf_format.specs.HeapBytes.{ChangesOnly, MovesEnd, KeepsFillers}
 use Rattle.adf_format.specs.HeapRule.{give_all}
 use Rattle.adf_format.specs.Placement.{Heap, NodeParts, node_extents}
 use Rattle.file_heap.specs.Heap.{FreeSpace, IsThreaded}
+use Rattle.tree_edits.specs.Waiting.{WaitsInRoom}
 use Rattle.tree_deletes.specs.declared.doomed.Doomed.{Doomed}
 use Rattle.tree_deletes.specs.Doomed.{Stands}
 
@@ -49,6 +50,18 @@ GivesNodes wide ds was now old new =
 abbrev pub MayNotGive : Bool → List Doomed → Heap → Option (List ℕ) → Type 0
 MayNotGive wide ds heap held =
     IfSome held (λ bytes. (parts : List NodeParts) → AllStand bytes parts ds → MayGiveAll (parts_extents wide parts) heap → ⊥)
+
+-- where the parts of a node stand in the bytes, and may be given, blocks wait anew only of these, of gaps and of the heap's fields
+abbrev pub NodeWaits : Bool → Doomed → Heap → Heap → List ℕ → List ℕ → List ℕ → Type 0
+NodeWaits wide d was now before after bytes =
+    (parts : NodeParts) → Stands bytes parts d → MayGiveAll (node_extents wide parts) was
+    → WaitsInRoom (node_extents wide parts) was now before after
+
+-- the same of nodes, one after another
+abbrev pub NodesWait : Bool → List Doomed → Heap → Heap → List ℕ → List ℕ → List ℕ → Type 0
+NodesWait wide ds was now before after bytes =
+    (parts : List NodeParts) → AllStand bytes parts ds → MayGiveAll (parts_extents wide parts) was
+    → WaitsInRoom (parts_extents wide parts) was now before after
 
 -- the blocks that may wait: twelve for each header, table, chunk table and chunk
 abbrev pub gift_cost : List Doomed → ℕ

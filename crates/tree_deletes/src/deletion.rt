@@ -10,6 +10,7 @@ ghost use Rattle.cg_io.specs.Answers.{AnswersRead, AnswersWrite, OnlyReads};
 ghost use Rattle.cg_io.specs.Blocks.{Both};
 ghost use Rattle.tree_edits.specs.Edits.{Does, Refuses, KeepsCore, memory_of};
 ghost use Rattle.tree_edits.specs.Rows.{AreNear, Means};
+ghost use Rattle.tree_edits.specs.Waiting.{Reaches};
 ghost use Rattle.tree_deletes.specs.Deleted.{IsDeletion, MayDelete, IsDeleteCause, DeletesWithin};
 ghost use Rattle.tree_deletes.specs.Doomed.{IsSane};
 
@@ -101,6 +102,8 @@ pub fn delete<S: Space>(
         (λ bytes. (tree : Tree) × (p : Placement) × Means bytes tree p (memory_of core.old)) }
     ensures done { OnOk result (Both (Does (Edit.Delete node) core.old core.new)
         (S.image space.old) (S.image space.new)) }
+    ensures reached { OnOk result (IfSome (S.image space.old) (Reaches (Edit.Delete node)
+        core.old core.new (S.waiting space.old) (S.waiting space.new))) }
     ensures allowed { OnOk result (MayDelete core.old node (S.image space.old)) }
     ensures refused { IfErr result (λ e. IfSome (S.image space.old)
         (Refuses (Edit.Delete node) core.old e)) }

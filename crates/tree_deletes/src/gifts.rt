@@ -12,8 +12,10 @@ ghost use Rattle.disk_ptr.specs.View.{HasOffset};
 ghost use Rattle.file_heap.specs.Heap.{IsHeap, IsThreaded};
 ghost use Rattle.tree_edits.specs.Joined.{extents_of_table};
 ghost use Rattle.tree_edits.specs.Taken.{KeepsHeap};
+ghost use Rattle.tree_edits.specs.Waiting.{WaitsInRoom, IfTold};
+ghost use Rattle.field_access.specs.Fields.{range};
 ghost use Rattle.tree_deletes.specs.Doomed.{IsSane};
-ghost use Rattle.tree_deletes.specs.Given.{GivesTogether, GivesNode, GivesNodes, NodeMayNot, MayNotGive, gift_cost};
+ghost use Rattle.tree_deletes.specs.Given.{GivesTogether, GivesNode, GivesNodes, NodeMayNot, MayNotGive, NodeWaits, NodesWait, gift_cost};
 
 use crate::doomed::Doomed;
 use adf_data::release;
@@ -34,6 +36,8 @@ fn give_range<S: Space>(space: &mut S, heap: &mut Heap, place: u64, n: u64) -> R
     ensures given { OnOk result ((kind : ExtentKind) → Both (GivesTogether
         (extent kind place n ∷ []) heap.old.work heap.new.work) (S.image space.old)
         (S.image space.new)) }
+    ensures waits { OnOk result (IfTold (S.image space.old) (WaitsInRoom (range place n ∷ [])
+        heap.old.work.heap heap.new.work.heap (S.waiting space.old) (S.waiting space.new))) }
     ensures heap { OnOk result (IsHeap heap.new.work.heap) }
     ensures threads { OnOk result (IfSome (S.image space.new) (IsThreaded heap.new.work)) }
     ensures kept { KeepsHeap heap.old heap.new }
@@ -58,6 +62,9 @@ fn give_table<S: Space>(space: &mut S, heap: &mut Heap, table: ChildTable) -> Re
     requires threads { IfSome (S.image space.old) (IsThreaded heap.old.work) }
     ensures given { OnOk result (Both (GivesTogether (extents_of_table table) heap.old.work
         heap.new.work) (S.image space.old) (S.image space.new)) }
+    ensures waits { OnOk result (IfTold (S.image space.old)
+        (WaitsInRoom (extents_of_table table) heap.old.work.heap heap.new.work.heap
+        (S.waiting space.old) (S.waiting space.new))) }
     ensures heap { OnOk result (IsHeap heap.new.work.heap) }
     ensures threads { OnOk result (IfSome (S.image space.new) (IsThreaded heap.new.work)) }
     ensures kept { KeepsHeap heap.old heap.new }
@@ -86,6 +93,9 @@ fn give_node<S: Space>(
     requires threads { IfSome (S.image space.old) (IsThreaded heap.old.work) }
     ensures given { OnOk result (Both (GivesNode wide node heap.old.work heap.new.work)
         (S.image space.old) (S.image space.new)) }
+    ensures waits { OnOk result (IfSome (S.image space.old)
+        (NodeWaits wide node heap.old.work.heap heap.new.work.heap
+        (S.waiting space.old) (S.waiting space.new))) }
     ensures threads { OnOk result (IfSome (S.image space.new) (IsThreaded heap.new.work)) }
     ensures kept { KeepsHeap heap.old heap.new }
     ensures writes { AnswersWrite S.is_sound S.state S.waiting (12 * (3 + node.chunks.count))
@@ -119,6 +129,9 @@ pub(crate) fn give_nodes<S: Space>(
     requires threads { IfSome (S.image space.old) (IsThreaded core.old.heap.work) }
     ensures given { OnOk result (Both (GivesNodes core.old.wide nodes.now core.old.heap.work
         core.new.heap.work) (S.image space.old) (S.image space.new)) }
+    ensures waits { OnOk result (IfSome (S.image space.old)
+        (NodesWait core.old.wide nodes.now core.old.heap.work.heap core.new.heap.work.heap
+        (S.waiting space.old) (S.waiting space.new))) }
     ensures kept { KeepsHeap core.old.heap core.new.heap }
     ensures rows { core.new.rows ≡ core.old.rows }
     ensures wide { core.new.wide ≡ core.old.wide }

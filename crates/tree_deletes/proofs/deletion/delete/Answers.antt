@@ -1,21 +1,24 @@
-use Rattle.std.proofs.Common.{◌≡◌, ◌+◌, ◌∙◌, List, length, sym, ap, subst, arith, inl, inr, refl}
-use Rattle.std.specs.Prelude.{OnOk}
+use Rattle.std.proofs.Common.{◌≡◌, ◌+◌, ◌∙◌, List, length, sym, ap, subst, arith, inl, inr, refl, [], ◌∷◌, ℕ}
+use Rattle.std.specs.Prelude.{OnOk, IfSome}
 use Rattle.std.specs.List.{All}
 use Rattle.std.proofs.lemmas.List.Elements.{All-weaker}
 use Rattle.std.proofs.lemmas.Result.{on_ok_weaker}
 use Rattle.cg_io.specs.Blocks.{Both}
 use Rattle.cg_io.specs.Waits.{how_many}
 use Rattle.cg_io.proofs.ReadLaws.{only_then, refused_for, all_refused_for}
-use Rattle.tree_edits.specs.Left.{LeavesList, leave_cost}
+use Rattle.tree_edits.specs.Left.{LeavesList, leave_cost, entry_place, length_behind}
 use Rattle.tree_edits.specs.Undo.{RowsState}
 use Rattle.tree_edits.proofs.Causes.{where_ok}
 use Rattle.tree_deletes.specs.declared.doomed.Doomed.{Doomed}
 use Rattle.tree_deletes.specs.Deleted.{MayDelete}
 use Rattle.tree_deletes.specs.Doomed.{IsSane, MeansNone}
 use Rattle.tree_deletes.specs.Erased.{serials_of, without_rows}
-use Rattle.tree_deletes.specs.Given.{GivesNodes, MayNotGive, gift_cost}
+use Rattle.tree_deletes.specs.Given.{GivesNodes, MayNotGive, gift_cost, NodesWait}
 use Rattle.tree_deletes.proofs.Erasing.{count_kept}
 use Rattle.tree_deletes.proofs.Done.{fault_after, all_after, threads_then, none_given_up, done, near_left}
+use Rattle.field_access.specs.Fields.{range}
+use Rattle.tree_edits.proofs.WaitSteps.{waits_again}
+use Rattle.tree_deletes.proofs.DeleteReached.{delete_reached}
 use Rattle.tree_deletes.proofs.deletion.delete.Goals as goal
 
 pub returns-in-Err-clause-writes : goal.returns-in-Err-clause-writes
@@ -148,3 +151,19 @@ returns-clause-writes g c =
         cause = ends.1;
       },
     )
+
+pub returns-clause-reached : goal.returns-clause-reached
+returns-clause-reached g c =
+    let core = c.args.core.now in
+    let now = c.give_nodes.new.core in
+    let d = c.in-Ok.found in
+    let nodes : List Doomed = d.nodes.items in
+    let told = g.S.ReadBytes.image c.args.space.now in
+    let mid = g.S.ReadBytes.image c.leave_list.new.space in
+    let x = g.S.ReadBytes.waiting c.args.space.now in
+    let y = g.S.ReadBytes.waiting c.leave_list.new.space in
+    let z = g.S.ReadBytes.waiting c.give_nodes.new.space in
+    let left : Both (LeavesList d.above.place d.listed) told mid = subst (λ o. Both (LeavesList d.above.place d.listed) o mid) c.in-Ok.ensures.reads.bytes c.in-Ok-leave_list.ensures.left in
+    let moved = waits_again (range (entry_place d.listed) (length_behind d.listed) ∷ range (d.above.place + 68) 8 ∷ []) x (g.S.ReadBytes.waiting c.find_deletion.new.space) y c.in-Ok.ensures.reads.waits c.in-Ok-leave_list.ensures.waits in
+    on_ok_weaker c.give_nodes.result (λ w. delete_reached core c.args.node d.above d.listed nodes now x y z told mid c.in-Ok.ensures.deletion left moved w)
+    (subst (λ ds. OnOk c.give_nodes.result (IfSome mid (NodesWait core.wide ds core.heap.work.heap now.heap.work.heap y z))) c.deref-2.ensures.value c.give_nodes.ensures.waits)

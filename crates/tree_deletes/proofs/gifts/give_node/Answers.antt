@@ -12,6 +12,9 @@ use Rattle.tree_deletes.specs.declared.doomed.Doomed.{Doomed}
 use Rattle.tree_deletes.specs.Given.{GivesTogether, NodeMayNot}
 use Rattle.tree_deletes.proofs.Giving.{data_given, node_given}
 use Rattle.tree_deletes.proofs.GiftRounds.{header_not, table_not, data_not}
+use Rattle.field_access.specs.Fields.{range}
+use Rattle.tree_deletes.proofs.GiftWaits.{node_waits}
+use Rattle.tree_edits.specs.Waiting.{WaitsInRoom, IfTold}
 use Rattle.tree_deletes.proofs.gifts.give_node.Goals as goal
 
 pub returns-in-Err-clause-writes : goal.returns-in-Err-clause-writes
@@ -79,3 +82,21 @@ returns-in-Ok-release-clause-given g c =
     subst (λ n. Both (GivesTogether (extent ExtentKind.Node d.place n ∷ []) w0 w1) told first) c.node_length.ensures (c.in-Ok.ensures.given ExtentKind.Node) in
     node_given c.args.wide d w0 w1 w2 w3 told first last new h c.in-Ok-give_table.ensures.given
     (data_given d.chunks w2 w3 last new c.in-Ok-release.ensures.gives c.in-Ok-release.ensures.threads c.release.ensures.bytes c.in-Ok-release.ensures.end c.in-Ok-release.ensures.fillers)
+
+pub returns-in-Ok-release-clause-waits : goal.returns-in-Ok-release-clause-waits
+returns-in-Ok-release-clause-waits g c =
+    let d : Doomed = c.args.node in
+    let w0 = c.args.heap.now.work in
+    let w1 = c.give_range.new.heap.work in
+    let w2 = c.give_table.new.heap.work in
+    let w3 = c.release.new.heap.work in
+    let told = g.S.ReadBytes.image c.args.space.now in
+    let first = g.S.ReadBytes.image c.give_range.new.space in
+    let last = g.S.ReadBytes.image c.give_table.new.space in
+    let x = g.S.ReadBytes.waiting c.args.space.now in
+    let y = g.S.ReadBytes.waiting c.give_range.new.space in
+    let z = g.S.ReadBytes.waiting c.give_table.new.space in
+    let u = g.S.ReadBytes.waiting c.release.new.space in
+    node_waits c.args.wide d w0 w1 w2 w3 x y z u told first last
+    (subst (λ n. Both (GivesTogether (extent ExtentKind.Node d.place n ∷ []) w0 w1) told first) c.node_length.ensures (c.in-Ok.ensures.given ExtentKind.Node)) c.in-Ok-give_table.ensures.given
+    (subst (λ n. IfTold told (WaitsInRoom (range d.place n ∷ []) w0.heap w1.heap x y)) c.node_length.ensures c.in-Ok.ensures.waits) c.in-Ok-give_table.ensures.waits c.in-Ok-release.ensures.gives c.release.ensures.only

@@ -2,8 +2,10 @@ use Rattle.std.proofs.Common.{◌+◌, ◌∙◌, arith, refl, subst, get_or}
 use Rattle.cg_io.specs.Blocks.{Both}
 use Rattle.cg_io.proofs.ReadLaws.{only_none, only_then, refused_later}
 use Rattle.tree_deletes.specs.declared.doomed.Doomed.{Doomed}
-use Rattle.tree_deletes.specs.Given.{GivesNode, NodeMayNot, MayNotGive}
+use Rattle.tree_deletes.specs.Given.{GivesNode, NodeMayNot, MayNotGive, NodeWaits}
 use Rattle.tree_deletes.proofs.GiftRounds.{no_node, no_round, next_round, round_not, last_round, cost_one, cost_part}
+use Rattle.tree_deletes.proofs.GiftWaits.{none_wait, more_wait}
+use Rattle.std.specs.Prelude.{IfSome}
 use Rattle.tree_deletes.proofs.gifts.give_nodes.Goals as goal
 
 pub loop-node-init : goal.loop-node-init
@@ -17,6 +19,7 @@ loop-node-init g c = record {
   wide = refl;
   writable = refl;
   given = no_round c.args.core.now.wide c.args.nodes.now c.args.core.now.heap.work (g.S.ReadBytes.image c.args.space.now) c.requires.threads;
+  room = none_wait c.args.core.now.wide c.args.nodes.now c.args.core.now.heap.work.heap (g.S.ReadBytes.waiting c.args.space.now) (g.S.ReadBytes.image c.args.space.now);
 }
 
 pub returns-in-Err-clause-writes : goal.returns-in-Err-clause-writes
@@ -57,8 +60,14 @@ loop-node-preserved g c =
       wide = c.loop-node.invariant.wide;
       writable = c.loop-node.invariant.writable;
       given = next_round c.args.core.now.wide nodes i no_node d c.loop-node-test.true refl w0 wi wj told mid new c.loop-node.invariant.given (subst (λ w. Both (GivesNode w d wi wj) mid new) c.loop-node.invariant.wide c.in-Ok.ensures.given);
+      room = more_wait c.args.core.now.wide nodes i no_node d c.loop-node-test.true refl w0 wi wj (g.S.ReadBytes.waiting c.args.space.now) (g.S.ReadBytes.waiting c.loop-node.space) (g.S.ReadBytes.waiting c.give_node.new.space) told mid
+          c.loop-node.invariant.given c.loop-node.invariant.room
+          (subst (λ w. IfSome mid (NodeWaits w d wi.heap wj.heap (g.S.ReadBytes.waiting c.loop-node.space) (g.S.ReadBytes.waiting c.give_node.new.space))) c.loop-node.invariant.wide c.in-Ok.ensures.waits);
     }
 
 pub returns-clause-given : goal.returns-clause-given
 returns-clause-given g c =
     last_round c.args.core.now.wide c.args.nodes.now c.loop-node.node-index c.args.core.now.heap.work c.loop-node.core.heap.work (g.S.ReadBytes.image c.args.space.now) (g.S.ReadBytes.image c.loop-node.space) c.loop-node-test.false c.loop-node.invariant.given
+
+pub returns-clause-waits : goal.returns-clause-waits
+returns-clause-waits g c = c.loop-node.invariant.room

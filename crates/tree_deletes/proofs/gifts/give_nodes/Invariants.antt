@@ -4,7 +4,7 @@ use Rattle.cg_io.specs.Answers.{OnlyReads}
 use Rattle.cg_io.specs.Blocks.{Both}
 use Rattle.file_heap.specs.Heap.{IsThreaded}
 use Rattle.tree_edits.specs.Taken.{KeepsHeap}
-use Rattle.tree_deletes.specs.Given.{gift_cost}
+use Rattle.tree_deletes.specs.Given.{NodesWait, gift_cost}
 use Rattle.tree_deletes.proofs.GiftRounds.{Rounds}
 use Rattle.cg_io.specs.Waits.{how_many}
 use Rattle.tree_deletes.proofs.gifts.give_nodes.Given as goal
@@ -20,4 +20,5 @@ invariant-loop-node g l = record {
   wide : l.core.wide ≡ l.fn.core.wide;
   writable : l.core.writable ≡ l.fn.core.writable;
   given : Both (Rounds l.fn.core.wide l.nodes l.node-index l.fn.core.heap.work l.core.heap.work) (g.S.ReadBytes.image l.fn.space) (g.S.ReadBytes.image l.space);
+  room : IfSome (g.S.ReadBytes.image l.fn.space) (NodesWait l.fn.core.wide l.nodes l.fn.core.heap.work.heap l.core.heap.work.heap (g.S.ReadBytes.waiting l.fn.space) (g.S.ReadBytes.waiting l.space));
 }
