@@ -1,6 +1,6 @@
 -- The rules of a set that a seen node breaks, by how it is seen.
-use Rattle.std.proofs.Common.{◌≡◌, ◌≢◌, ◌∙◌, ap, refl, ℕ, List, [], ◌∷◌, ◌++◌}
-use Rattle.std.specs.Prelude.{Option, Some, None, not, ◌==◌}
+use Rattle.std.proofs.Common.{◌≡◌, ◌≢◌, ◌∙◌, ap, subst, refl, ℕ, List, [], ◌∷◌, ◌++◌}
+use Rattle.std.specs.Prelude.{Bool, Option, Some, None, IfSome, not, ◌==◌}
 use Rattle.std.proofs.lemmas.List.{append-nil}
 use Rattle.adf_model.specs.declared.tree.NodeId.{NodeId}
 use Rattle.adf_model.specs.Slots.{Files}
@@ -10,6 +10,8 @@ use Rattle.sids_views.specs.Views.{kind_there, children_there, count_of}
 use Rattle.sids_rules.specs.declared.seen.Seen.{Seen}
 use Rattle.sids_rules.specs.Rules.{check_rules, broken_numbers, place_kind, is_allowed}
 use Rattle.sids_rules.specs.OffsetRules.{offset_rules}
+use Rattle.sids_rules.specs.Terms.{good_range}
+use Rattle.sids_section_rules.specs.SectionTests.{overlaps}
 use Rattle.sids_rules.proofs.ByKind.{of_lost, of_root}
 use Rattle.sids_readings.specs.declared.around.Surroundings.{Surroundings}
 use Rattle.sids_readings.specs.declared.rule_sets.RuleSet.{RuleSet}
@@ -18,7 +20,7 @@ use Rattle.sids_section_rules.specs.declared.section_rules.Spot.{Spot}
 use Rattle.sids_readings.specs.RuleSets.{rules_of}
 use Rattle.sids_readings.specs.Held.{held}
 use Rattle.sids_readings.specs.Around.{surroundings}
-use Rattle.sids_broken.specs.NodeTests.{tests_at, tests_with_place}
+use Rattle.sids_broken.specs.NodeTests.{IsKnownOf, tests_at, tests_with_place}
 use Rattle.sids_broken.proofs.OffsetTestLaws.{numbers_append, broken_are}
 
 module _ (files : Files) (s : Seen) where
@@ -59,13 +61,33 @@ root_are files s at rules e none =
     ∙ ap (λ p. broken_numbers (rules_of rules) files (record { node = s.node; target = Some at; parent = p; base = s.base; zone = s.zone })) none
     ∙ by_check files _ _ (of_root files s.node at s.base s.zone) (no_offsets_root files s.node at s.base s.zone) rules
 
+-- what is known of K30 changes no test
+tests_alike : (rules : RuleSet) (k : LabelKind) (files : Files) (node at parent : NodeId) (zone : Option NodeId) (known : Option Bool) (around : Surroundings)
+    → tests_with_place rules k files (record { node = node; at = at; parent = parent; zone = zone; overlaps = None }) around
+    ≡ tests_with_place rules k files (record { node = node; at = at; parent = parent; zone = zone; overlaps = known }) around
+tests_alike rules k files node at parent zone known around = by k
+  where
+    by : (k : LabelKind) → tests_with_place rules k files (record { node = node; at = at; parent = parent; zone = zone; overlaps = None }) around
+        ≡ tests_with_place rules k files (record { node = node; at = at; parent = parent; zone = zone; overlaps = known }) around
+    by Other = refl
+    by _ = refl
+
 -- any other node
-pub others_are : (files : Files) (s : Seen) (at parent : NodeId) (k : LabelKind) (rules : RuleSet) → s.target ≡ Some at → s.parent ≡ Some parent → kind_there files at ≡ k
-    → broken_numbers (rules_of rules) files s ≡ held (tests_with_place rules k files (record { node = s.node; at = at; parent = parent; zone = s.zone }) (surroundings files s))
-others_are files s at parent k rules e there is =
+pub others_are : (files : Files) (s : Seen) (at parent : NodeId) (k : LabelKind) (rules : RuleSet) (known : Option Bool) → s.target ≡ Some at → s.parent ≡ Some parent → kind_there files at ≡ k
+    → broken_numbers (rules_of rules) files s ≡ held (tests_with_place rules k files (record { node = s.node; at = at; parent = parent; zone = s.zone; overlaps = known }) (surroundings files s))
+others_are files s at parent k rules known e there is =
     ap (λ t. broken_numbers (rules_of rules) files (record { node = s.node; target = t; parent = s.parent; base = s.base; zone = s.zone })) e
     ∙ ap (λ p. broken_numbers (rules_of rules) files (record { node = s.node; target = Some at; parent = p; base = s.base; zone = s.zone })) there
     ∙ broken_are files s.node at parent s.base s.zone rules k is
+    ∙ ap held (tests_alike rules k files s.node at parent s.zone known (surroundings files s))
+
+-- what is known of K30 on a node, by where it stands
+pub known_spot : (files : Files) (s : Seen) (at parent : NodeId) (known : Option Bool) → s.target ≡ Some at → s.parent ≡ Some parent → IsKnownOf files s known
+    → IfSome known (λ b. b ≡ overlaps files s.zone parent s.node (good_range files at))
+known_spot files s at parent None e there h = tt
+known_spot files s at parent (Some known) e there h =
+    let met : Option NodeId → Option NodeId → Type 0 = λ t p. IfSome t (λ at. IfSome p (λ parent. known ≡ overlaps files s.zone parent s.node (good_range files at))) in
+    subst (λ p. met (Some at) p) there (subst (λ t. met t s.parent) e h)
 
 -- the rule of places comes first, of a node in the profile
 pub place_first : (rules : RuleSet) (k : LabelKind) (files : Files) (spot : Spot) (around : Surroundings) → k ≢ Other

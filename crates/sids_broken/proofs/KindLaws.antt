@@ -79,7 +79,7 @@ vertices files (Some at) section =
 
 module _ (files : Files) (node at parent : NodeId) (base zone : Option NodeId) where
   abbrev spot : Spot
-  spot = record { node = node; at = at; parent = parent; zone = zone }
+  spot = record { node = node; at = at; parent = parent; zone = zone; overlaps = None }
 
   abbrev around : Surroundings
   around = surroundings files (seen files node at parent base zone)

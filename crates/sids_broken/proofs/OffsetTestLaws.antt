@@ -179,7 +179,7 @@ module _ (files : Files) (node at parent : NodeId) (base zone : Option NodeId) w
   s = seen files node at parent base zone
 
   abbrev spot : Spot
-  spot = record { node = node; at = at; parent = parent; zone = zone }
+  spot = record { node = node; at = at; parent = parent; zone = zone; overlaps = None }
 
   abbrev around : Surroundings
   around = surroundings files s

@@ -1,10 +1,11 @@
 -- The tests on a node that is not the first of a walk, by what its label says that it is.
-use Rattle.std.specs.Prelude.{ℕ, ℤ, Bool, not, List, [], ◌∷◌, ◌++◌, Option, IfSome}
+use Rattle.std.specs.Prelude.{◌≡◌, ℕ, ℤ, Bool, not, List, [], ◌∷◌, ◌++◌, Option, IfSome}
 use Rattle.adf_model.specs.Slots.{Files}
 use Rattle.sids_tables.specs.declared.labels.LabelKind.{LabelKind}
 use Rattle.sids_tables.specs.declared.labels.LabelKind.TheVariants.{CgnsBase, Zone, DataArray, Rind, Bc, Elements, Other}
 use Rattle.sids_views.specs.Asks.{IsPlain, IsThere}
-use Rattle.sids_rules.specs.Terms.{base_dimensions}
+use Rattle.sids_rules.specs.declared.seen.Seen.{Seen}
+use Rattle.sids_rules.specs.Terms.{base_dimensions, good_range}
 use Rattle.sids_rules.specs.Rules.{place_kind, is_allowed}
 use Rattle.sids_readings.specs.declared.around.Surroundings.{Surroundings}
 use Rattle.sids_section_rules.specs.declared.section_rules.Spot.{Spot}
@@ -12,7 +13,7 @@ use Rattle.sids_section_rules.specs.declared.part_rules.SectionParts.{SectionPar
 use Rattle.sids_readings.specs.declared.rule_sets.RuleSet.{RuleSet}
 use Rattle.sids_readings.specs.Around.{sizes_around, limit_around}
 use Rattle.sids_node_rules.specs.KindTests.{tests_of_base, zone_tests, array_tests, rind_tests, condition_tests, tests_on}
-use Rattle.sids_section_rules.specs.SectionTests.{section_parts, section_tests}
+use Rattle.sids_section_rules.specs.SectionTests.{section_parts, section_tests, overlaps, IsKnown}
 use Rattle.sids_offset_rules.specs.OffsetTests.{offset_tests_of}
 
 -- the nodes of a spot are there
@@ -21,6 +22,7 @@ pub record IsSpot (files : Files) (spot : Spot) : Type 0 where
   pub at : IsPlain files spot.at
   pub parent : IsPlain files spot.parent
   pub zone : IfSome spot.zone (IsPlain files)
+  pub known : IsKnown files spot (good_range files spot.at)
 
 -- of a section, by its parts
 abbrev pub parts_tests_of : RuleSet → Files → Option (Option ℤ) → Spot → SectionParts → List (ℕ × Bool)
@@ -43,3 +45,7 @@ tests_at set other files spot around = tests_on other files spot.at
 abbrev pub tests_with_place : RuleSet → LabelKind → Files → Spot → Surroundings → List (ℕ × Bool)
 tests_with_place set Other files spot around = []
 tests_with_place set kind files spot around = (2, not (is_allowed (place_kind files spot.parent) kind)) ∷ tests_at set kind files spot around
+
+-- what is known of K30 on a seen node is so, where the node can be followed and is not the first
+abbrev pub IsKnownOf : Files → Seen → Option Bool → Type 0
+IsKnownOf files seen overlapping = IfSome overlapping (λ known. IfSome seen.target (λ at. IfSome seen.parent (λ parent. known ≡ overlaps files seen.zone parent seen.node (good_range files at))))

@@ -10,7 +10,7 @@ ghost use Rattle.sids_rules.specs.OffsetRules.{check4_rules};
 ghost use Rattle.sids_readings.specs.RuleSets.{rules_of};
 ghost use Rattle.sids_readings.specs.Held.{held};
 ghost use Rattle.sids_readings.specs.Around.{surroundings};
-ghost use Rattle.sids_broken.specs.NodeTests.{IsSpot, tests_at, tests_with_place};
+ghost use Rattle.sids_broken.specs.NodeTests.{IsSpot, IsKnownOf, tests_at, tests_with_place};
 
 use crate::element_rules::with_section_rules;
 use adf_model::{AdfError, NodeId, Rules, TreeCalls};
@@ -41,7 +41,7 @@ pub fn broken<C: TreeCalls>(alloc: Global, calls: &mut C, seen: &Seen) -> Result
         (C.devices calls.new) result }
 {
     match surroundings_of(alloc, calls, seen) {
-        Ok(around) => broken_by(alloc, calls, RuleSet::Check, seen, &around),
+        Ok(around) => broken_by(alloc, calls, RuleSet::Check, seen, &around, None),
         Err(error) => Err(error),
     }
 }
@@ -60,25 +60,28 @@ pub fn broken4<C: TreeCalls>(alloc: Global, calls: &mut C, seen: &Seen) -> Resul
         (C.devices calls.new) result }
 {
     match surroundings_of(alloc, calls, seen) {
-        Ok(around) => broken_by(alloc, calls, RuleSet::Check4, seen, &around),
+        Ok(around) => broken_by(alloc, calls, RuleSet::Check4, seen, &around, None),
         Err(error) => Err(error),
     }
 }
 
 /// The rules of a set that a seen node breaks, rising, for one who knows what the rules read of the base
-/// and of the zone above it.
+/// and of the zone above it, and maybe whether it breaks K30.
 pub fn broken_by<C: TreeCalls>(
     alloc: Global,
     calls: &mut C,
     set: RuleSet,
     seen: &Seen,
     around: &Surroundings,
+    overlaps: Option<bool>,
 ) -> Result<Rules, AdfError>
     requires ready { C.is_ready calls.old }
     requires seen { IsTold (C.files calls.old) (C.devices calls.old)
         → IsSeen (C.files calls.old) seen.now }
     requires around { IsTold (C.files calls.old) (C.devices calls.old)
         → around.now ≡ surroundings (C.files calls.old) seen.now }
+    requires known { IsTold (C.files calls.old) (C.devices calls.old)
+        → IsKnownOf (C.files calls.old) seen.now overlaps }
     ensures ready { C.is_ready calls.new }
     ensures only { OnlyAsks (C.files calls.old) (C.devices calls.old)
         (C.devices calls.new) (C.files calls.new) }
@@ -88,7 +91,7 @@ pub fn broken_by<C: TreeCalls>(
         (C.devices calls.new) result }
 {
     match target_of(calls, seen.node) {
-        Ok(Some(at)) => broken_at(alloc, calls, set, seen, at, around),
+        Ok(Some(at)) => { broken_at(alloc, calls, set, seen, at, around, overlaps) },
         Ok(None) => one_rule(alloc, 1, true),
         Err(error) => Err(error),
     }
@@ -102,12 +105,15 @@ fn broken_at<C: TreeCalls>(
     seen: &Seen,
     at: NodeId,
     around: &Surroundings,
+    overlaps: Option<bool>,
 ) -> Result<Rules, AdfError>
     requires ready { C.is_ready calls.old }
     requires seen { IsTold (C.files calls.old) (C.devices calls.old)
         → IsSeen (C.files calls.old) seen.now }
     requires around { IsTold (C.files calls.old) (C.devices calls.old)
         → around.now ≡ surroundings (C.files calls.old) seen.now }
+    requires known { IsTold (C.files calls.old) (C.devices calls.old)
+        → IsKnownOf (C.files calls.old) seen.now overlaps }
     requires target { IsTold (C.files calls.old) (C.devices calls.old)
         → seen.now.target ≡ Some at }
     requires plain { IsTold (C.files calls.old) (C.devices calls.old)
@@ -128,6 +134,7 @@ fn broken_at<C: TreeCalls>(
                     at,
                     parent,
                     zone: seen.zone,
+                    overlaps,
                 };
                 broken_of_kind(alloc, calls, set, kind, &spot, around)
             }

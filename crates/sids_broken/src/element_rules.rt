@@ -1,9 +1,10 @@
 //! The rules on sections of elements, of both sets.
 
-ghost use Rattle.std.specs.Prelude.{◌++◌, IfSome};
+ghost use Rattle.std.specs.Prelude.{◌≡◌, ◌++◌, IfSome};
 ghost use Rattle.adf_model.specs.Causes.{OnlyAsks};
 ghost use Rattle.adf_model.specs.Slots.{IsTold};
 ghost use Rattle.sids_views.specs.Asks.{IsValueOr, HasAskCause, IsPlain};
+ghost use Rattle.sids_rules.specs.Terms.{is_range, if_passes, good_range};
 ghost use Rattle.sids_readings.specs.Held.{held};
 ghost use Rattle.sids_offset_rules.specs.OffsetTests.{offset_tests_of};
 ghost use Rattle.sids_broken.specs.NodeTests.{IsSpot, parts_tests_of, section_tests_of};
@@ -54,6 +55,8 @@ fn with_parts_rules<C: TreeCalls>(
         → IsSpot (C.files calls.old) spot.now }
     requires connectivity { IsTold (C.files calls.old) (C.devices calls.old)
         → IfSome parts.now.connectivity (IsPlain (C.files calls.old)) }
+    requires range { IsTold (C.files calls.old) (C.devices calls.old)
+        → if_passes is_range parts.now.range ≡ good_range (C.files calls.old) spot.now.at }
     ensures ready { C.is_ready calls.new }
     ensures only { OnlyAsks (C.files calls.old) (C.devices calls.old)
         (C.devices calls.new) (C.files calls.new) }

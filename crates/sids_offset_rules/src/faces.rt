@@ -7,13 +7,13 @@ ghost use Rattle.std.specs.List.{AllByRecursion};
 ghost use Rattle.adf_model.specs.Causes.{OnlyAsks};
 ghost use Rattle.adf_model.specs.Slots.{IsTold};
 ghost use Rattle.sids_views.specs.Asks.{IsValueOr, HasAskCause, IsPlain};
-ghost use Rattle.sids_rules.specs.Terms.{good_range};
 ghost use Rattle.sids_rules.specs.OffsetRules.{face_range, face_ranges};
 ghost use Rattle.sids_offset_rules.specs.Faces.{face_of};
 
 use adf_format::Listing;
 use adf_model::{AdfError, NodeId, TreeCalls};
-use sids_readings::{ElementRange, section_head, section_range};
+use sids_readings::{ElementRange, section_head};
+use sids_section_rules::good_range;
 use sids_tables::LabelKind;
 use sids_views::{SeenChild, children_of};
 use std::alloc::Global;
@@ -140,29 +140,6 @@ fn face_range<C: TreeCalls>(
                 Ok(None)
             }
         }
-        Ok(None) => Ok(None),
-        Err(error) => Err(error),
-    }
-}
-
-fn good_range<C: TreeCalls>(
-    alloc: Global,
-    calls: &mut C,
-    at: NodeId,
-) -> Result<Option<ElementRange>, AdfError>
-    requires ready { C.is_ready calls.old }
-    requires plain { IsTold (C.files calls.old) (C.devices calls.old)
-        → IsPlain (C.files calls.old) at }
-    ensures ready { C.is_ready calls.new }
-    ensures only { OnlyAsks (C.files calls.old) (C.devices calls.old)
-        (C.devices calls.new) (C.files calls.new) }
-    ensures value { IsTold (C.files calls.old) (C.devices calls.old)
-        → IsValueOr (good_range (C.files calls.old) at) result }
-    ensures cause { HasAskCause (C.files calls.old) (C.devices calls.old)
-        (C.devices calls.new) result }
-{
-    match section_range(alloc, calls, at) {
-        Ok(Some(range)) => Ok(if range.is_good() { Some(range) } else { None }),
         Ok(None) => Ok(None),
         Err(error) => Err(error),
     }

@@ -363,7 +363,7 @@ fn lacks_face_in<C: TreeCalls>(
         (C.devices calls.new) result }
 {
     match face_ranges(alloc, calls, zone) {
-        Ok(faces) => has_no_face(calls, section, faces),
+        Ok(faces) => has_no_face(alloc, calls, section, faces.items()),
         Err(error) => Err(error),
     }
 }

@@ -1,22 +1,22 @@
 //! The pieces of a connectivity, each from where an offset says up to where the next one does.
 
 ghost use Rattle.std.specs.Prelude.{◌≡◌, ◌≤◌, true, false, length};
+ghost use Rattle.std.specs.List.{list_any};
 ghost use Rattle.adf_model.specs.Causes.{OnlyAsks};
 ghost use Rattle.adf_model.specs.Edits.{size_of, size_limit};
 ghost use Rattle.adf_model.specs.Slots.{IsTold};
 ghost use Rattle.sids_views.specs.Asks.{IsValueOr, HasAskCause, IsPlain};
 ghost use Rattle.sids_views.specs.Views.{node_there};
 ghost use Rattle.sids_rules.specs.Values.{is_ints, ints_there};
-ghost use Rattle.sids_rules.specs.OffsetRules.{are_offsets, has_bad_piece, has_bad_node};
+ghost use Rattle.sids_rules.specs.OffsetRules.{are_offsets, has_bad_piece, has_bad_node, is_no_face};
 ghost use Rattle.sids_readings.specs.Reading.{is_wide, is_list};
 ghost use Rattle.sids_offset_rules.specs.Pieces.{IsOffsetSection, offset_state, mixed_fault, polygon_fault, fault_of, piece_fault, fault_with, has_no_face};
 
 use crate::offset_lists::{MIXED, OffsetSection, OffsetState, are_offsets};
-use adf_format::Listing;
 use adf_model::{AdfError, DataType, NodeId, TreeCalls};
 use sids_readings::{ElementRange, ints_of, is_small_list, is_type};
 use sids_rules::{breaks_k38, breaks_k39};
-use sids_section_rules::{EntryTest, has_failing_entry};
+use sids_section_rules::{EntryTest, has_failing_entry, union_of};
 use sids_views::view_of;
 use std::alloc::Global;
 
@@ -244,9 +244,10 @@ fn polygons_there<C: TreeCalls>(
 /// K40 face-numbers, of a section whose offsets are not bad: it is one of polyhedra, and a number of the
 /// connectivity is 0, or its amount lies in none of the ranges of faces.
 pub fn has_no_face<C: TreeCalls>(
+    alloc: Global,
     calls: &mut C,
     section: &OffsetSection,
-    faces: Listing<ElementRange>,
+    faces: &[ElementRange],
 ) -> Result<bool, AdfError>
     requires ready { C.is_ready calls.old }
     requires section { IsTold (C.files calls.old) (C.devices calls.old)
@@ -255,7 +256,7 @@ pub fn has_no_face<C: TreeCalls>(
     ensures only { OnlyAsks (C.files calls.old) (C.devices calls.old)
         (C.devices calls.new) (C.files calls.new) }
     ensures value { IsTold (C.files calls.old) (C.devices calls.old)
-        → IsValueOr (has_no_face (C.files calls.old) section.now faces) result }
+        → IsValueOr (has_no_face (C.files calls.old) section.now faces.now) result }
     ensures cause { HasAskCause (C.files calls.old) (C.devices calls.old)
         (C.devices calls.new) result }
 {
@@ -266,11 +267,42 @@ pub fn has_no_face<C: TreeCalls>(
         Ok(view) => {
             if is_small_list(&view) {
                 let wide = !is_type(&view, DataType::I4);
-                has_failing_entry(calls, section.connectivity(), wide, &EntryTest::Face(faces))
+                some_is_no_face(alloc, calls, section.connectivity(), wide, faces)
             } else {
                 Ok(false)
             }
         }
+        Err(error) => Err(error),
+    }
+}
+
+/// Whether a number of a connectivity is 0, or its amount lies in none of the ranges of faces.
+fn some_is_no_face<C: TreeCalls>(
+    alloc: Global,
+    calls: &mut C,
+    at: NodeId,
+    wide: bool,
+    faces: &[ElementRange],
+) -> Result<bool, AdfError>
+    requires ready { C.is_ready calls.old }
+    requires plain { IsTold (C.files calls.old) (C.devices calls.old)
+        → IsPlain (C.files calls.old) at }
+    requires list { IsTold (C.files calls.old) (C.devices calls.old)
+        → is_list (node_there (C.files calls.old) at) ≡ true }
+    requires small { IsTold (C.files calls.old) (C.devices calls.old)
+        → size_of (node_there (C.files calls.old) at) ≤ size_limit }
+    requires width { IsTold (C.files calls.old) (C.devices calls.old)
+        → is_wide (node_there (C.files calls.old) at) ≡ wide }
+    ensures ready { C.is_ready calls.new }
+    ensures only { OnlyAsks (C.files calls.old) (C.devices calls.old)
+        (C.devices calls.new) (C.files calls.new) }
+    ensures value { IsTold (C.files calls.old) (C.devices calls.old)
+        → IsValueOr (list_any (is_no_face faces.now) (ints_there (C.files calls.old) at)) result }
+    ensures cause { HasAskCause (C.files calls.old) (C.devices calls.old)
+        (C.devices calls.new) result }
+{
+    match union_of(alloc, faces) {
+        Ok(faces) => has_failing_entry(calls, at, wide, &EntryTest::Face(faces)),
         Err(error) => Err(error),
     }
 }

@@ -65,7 +65,8 @@ pub fn zone_numbers<C: TreeCalls>(
     }
 }
 
-fn zone_around<C: TreeCalls>(
+/// What the rules read of the zone above a node, where there is one.
+pub fn zone_around<C: TreeCalls>(
     alloc: Global,
     calls: &mut C,
     zone: Option<NodeId>,
@@ -90,7 +91,8 @@ fn zone_around<C: TreeCalls>(
     }
 }
 
-fn base_around<C: TreeCalls>(
+/// The dimensions of the base above a node, where there is one that meets K05.
+pub fn base_around<C: TreeCalls>(
     alloc: Global,
     calls: &mut C,
     base: Option<NodeId>,

@@ -15,7 +15,8 @@ mod texts;
 mod zones;
 
 pub use around::{
-    Surroundings, ZoneNumbers, limit_around, sizes_around, surroundings_of, zone_numbers,
+    Surroundings, ZoneNumbers, base_around, limit_around, sizes_around, surroundings_of,
+    zone_around, zone_numbers,
 };
 pub use bases::{BaseDimensions, base_dimensions};
 pub use limits::vertex_limit;

@@ -1,3 +1,5 @@
 pub mod OverlapLaws
+pub mod SpanLaws
+pub mod NoteLaws
 pub mod EntryLaws
 pub mod PartLaws

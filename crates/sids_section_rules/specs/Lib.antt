@@ -1,3 +1,5 @@
+pub mod Noted
+pub mod Spans
 pub mod Overlaps
 pub mod Entries
 pub mod SectionTests

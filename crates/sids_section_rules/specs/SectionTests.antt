@@ -1,5 +1,5 @@
 -- What the children of a section tell, and the tests on it.
-use Rattle.std.specs.Prelude.{ℕ, ℤ, Bool, not, ◌&&◌, List, [], ◌∷◌, ◌++◌, Option, is_none}
+use Rattle.std.specs.Prelude.{◌≡◌, ℕ, ℤ, Bool, not, ◌&&◌, List, [], ◌∷◌, ◌++◌, Option, is_none, IfSome}
 use Rattle.std.specs.List.{list_any}
 use Rattle.adf_model.specs.declared.tree.NodeId.{NodeId}
 use Rattle.adf_model.specs.Slots.{Files}
@@ -8,6 +8,7 @@ use Rattle.sids_rules.specs.Terms.{section_head, is_head, Range, section_range, 
 use Rattle.sids_rules.specs.Rules.{Section, whole_section, is_connected, meets, ranges_of, sections_before}
 use Rattle.sids_section_rules.specs.Entries.{has_no_vertex}
 use Rattle.sids_section_rules.specs.declared.part_rules.SectionParts.{SectionParts}
+use Rattle.sids_section_rules.specs.declared.section_rules.Spot.{Spot}
 
 -- the parts of a section, each where it is there
 abbrev pub section_parts : Files → NodeId → SectionParts
@@ -44,3 +45,7 @@ overlaps files zone parent node range = given zone (λ in_zone. is_same_node par
 abbrev pub section_tests : Files → Option NodeId → Option (Option ℤ) → NodeId → NodeId → SectionParts → List (ℕ × Bool)
 section_tests files zone limit parent node parts =
     part_tests parts ++ connectivity_tests files limit (whole parts) ++ (30, overlaps files zone parent node (if_passes is_range parts.range)) ∷ []
+
+-- what is known of K30 on a section of this range is so
+abbrev pub IsKnown : Files → Spot → Option Range → Type 0
+IsKnown files spot range = IfSome spot.overlaps (λ known. known ≡ overlaps files spot.zone spot.parent spot.node range)

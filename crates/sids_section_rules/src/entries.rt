@@ -9,14 +9,13 @@ ghost use Rattle.sids_views.specs.Asks.{IsValueOr, HasAskCause, IsPlain};
 ghost use Rattle.sids_views.specs.Views.{node_there};
 ghost use Rattle.sids_rules.specs.Values.{ints_there};
 ghost use Rattle.sids_rules.specs.Rules.{is_no_vertex, first_dimension};
-ghost use Rattle.sids_rules.specs.OffsetRules.{is_in_range, is_no_face};
 ghost use Rattle.sids_readings.specs.Reading.{is_wide, bytes_of, numbers_of, is_list};
-ghost use Rattle.sids_section_rules.specs.Entries.{fails, has_failing};
+ghost use Rattle.sids_section_rules.specs.Entries.{is_no_number, fails, has_failing};
 
 use crate::parts::part_of;
-use adf_format::Listing;
 use adf_model::{AdfError, Format, NodeId, TreeCalls};
-use sids_readings::{ElementRange, bytes_of, first_dimension, first_number};
+use element_ranges::RangeUnion;
+use sids_readings::{bytes_of, first_dimension, first_number};
 use sids_views::{format_of, view_of};
 
 /// What each number of a connectivity has to be.
@@ -25,7 +24,7 @@ pub enum EntryTest {
     /// The number of a vertex: 1 or more, and at most this one where there is one.
     Vertex(Option<i64>),
     /// The number of an element in one of these ranges, with or without a sign.
-    Face(Listing<ElementRange>),
+    Face(RangeUnion),
 }
 
 impl EntryTest {
@@ -35,7 +34,7 @@ impl EntryTest {
     {
         match self {
             EntryTest::Vertex(limit) => is_no_vertex(*limit, number),
-            EntryTest::Face(faces) => is_no_face(faces.items(), number),
+            EntryTest::Face(faces) => is_no_face(faces, number),
         }
     }
 }
@@ -49,29 +48,11 @@ fn is_no_vertex(limit: Option<i64>, number: i64) -> bool
     }
 }
 
-fn is_no_face(faces: &[ElementRange], number: i64) -> bool
-    ensures { result ≡ is_no_face faces.now number }
+fn is_no_face(faces: &RangeUnion, number: i64) -> bool
+    ensures { result ≡ is_no_number faces.now number }
 {
-    number == 0 || !is_in_some(faces, number)
-}
-
-fn is_in_some(faces: &[ElementRange], number: i64) -> bool
-    ensures { result ≡ list_any (is_in_range number) faces.now }
-{
-    for face in faces {
-        if is_in_range(face, number) {
-            return true;
-        }
-    }
-    false
-}
-
-/// Whether the amount of a number lies in a range.
-fn is_in_range(range: &ElementRange, number: i64) -> bool
-    ensures { result ≡ is_in_range number range.now }
-{
-    let amount = i128::from(number.unsigned_abs());
-    i128::from(range.start()) <= amount && amount <= i128::from(range.end())
+    let amount = number.unsigned_abs();
+    number == 0 || !faces.meets(amount, amount)
 }
 
 /// How many numbers are read at a time.

@@ -103,7 +103,8 @@ fn overlap_step<C: TreeCalls>(
     }
 }
 
-pub(crate) fn is_same_node(one: NodeId, other: NodeId) -> bool
+/// Whether two are the same node of the same file.
+pub fn is_same_node(one: NodeId, other: NodeId) -> bool
     ensures { result ≡ is_same_node one other }
 {
     one.file == other.file && one.serial == other.serial

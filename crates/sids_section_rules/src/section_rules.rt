@@ -9,7 +9,7 @@ ghost use Rattle.sids_rules.specs.Terms.{is_range, if_passes};
 ghost use Rattle.sids_rules.specs.Rules.{is_connected};
 ghost use Rattle.sids_section_rules.specs.Entries.{has_no_vertex};
 ghost use Rattle.sids_readings.specs.Held.{held};
-ghost use Rattle.sids_section_rules.specs.SectionTests.{whole, connectivity_tests, overlaps, section_tests};
+ghost use Rattle.sids_section_rules.specs.SectionTests.{whole, connectivity_tests, overlaps, section_tests, IsKnown};
 
 use crate::connectivities::{breaks_connectivity_nodes, breaks_connectivity_size};
 use crate::overlaps::{breaks_sections_overlap, is_same_node};
@@ -26,6 +26,8 @@ pub struct Spot {
     pub at: NodeId,
     pub parent: NodeId,
     pub zone: Option<NodeId>,
+    /// Whether it breaks K30, where that is known.
+    pub overlaps: Option<bool>,
 }
 
 /// K28 connectivity-size and K29 connectivity-nodes, of the parts of a section.
@@ -171,6 +173,8 @@ pub fn with_check_rules<C: TreeCalls>(
         → IfSome spot.now.zone (IsPlain (C.files calls.old)) }
     requires plain { IsTold (C.files calls.old) (C.devices calls.old)
         → IfSome parts.now.connectivity (IsPlain (C.files calls.old)) }
+    requires known { IsTold (C.files calls.old) (C.devices calls.old)
+        → IsKnown (C.files calls.old) spot.now (if_passes is_range parts.now.range) }
     ensures ready { C.is_ready calls.new }
     ensures only { OnlyAsks (C.files calls.old) (C.devices calls.old)
         (C.devices calls.new) (C.files calls.new) }
@@ -198,6 +202,8 @@ fn with_overlap_rule<C: TreeCalls>(
     requires ready { C.is_ready calls.old }
     requires zone { IsTold (C.files calls.old) (C.devices calls.old)
         → IfSome spot.now.zone (IsPlain (C.files calls.old)) }
+    requires known { IsTold (C.files calls.old) (C.devices calls.old)
+        → IsKnown (C.files calls.old) spot.now (if_passes is_range range.now) }
     ensures ready { C.is_ready calls.new }
     ensures only { OnlyAsks (C.files calls.old) (C.devices calls.old)
         (C.devices calls.new) (C.files calls.new) }
@@ -206,6 +212,9 @@ fn with_overlap_rule<C: TreeCalls>(
     ensures cause { HasAskCause (C.files calls.old) (C.devices calls.old)
         (C.devices calls.new) result }
 {
+    if let Some(is_broken) = spot.overlaps {
+        return with_rule(rules, 30, is_broken);
+    }
     match overlaps(alloc, calls, spot.zone, spot.parent, spot.node, range) {
         Ok(is_broken) => with_rule(rules, 30, is_broken),
         Err(error) => Err(error),

@@ -1,12 +1,16 @@
-use Rattle.std.proofs.Common.{◌∙◌, ap, subst, ◌++◌}
+use Rattle.std.proofs.Common.{◌∙◌, sym, ap, subst, ◌++◌}
 use Rattle.adf_model.specs.Slots.{Files}
 use Rattle.sids_views.specs.Asks.{IsValueOr}
 use Rattle.sids_views.proofs.Gathered.{told_after}
 use Rattle.sids_readings.specs.Held.{held}
-use Rattle.sids_section_rules.specs.SectionTests.{section_tests}
+use Rattle.sids_section_rules.specs.SectionTests.{section_tests, IsKnown}
 use Rattle.sids_offset_rules.specs.OffsetTests.{offset_tests_of}
 use Rattle.sids_readings.proofs.HeldLaws.{held_more}
 use Rattle.sids_broken.proofs.element_rules.with_parts_rules.Goals as goal
+
+pub with_check_rules-requires-clause-known : goal.with_check_rules-requires-clause-known
+with_check_rules-requires-clause-known g c told =
+    subst (λ range. IsKnown (g.C.TreeCalls.files c.args.calls.now) c.args.spot.now range) (sym (c.requires.range told)) (c.requires.spot told).known
 
 pub returns-in-Ok-clause-value : goal.returns-in-Ok-clause-value
 returns-in-Ok-clause-value g c told =

@@ -4,9 +4,14 @@ use Rattle.sids_views.specs.Asks.{IsValueOr}
 use Rattle.sids_views.proofs.Gathered.{told_after}
 use Rattle.sids_rules.specs.Terms.{is_range, if_passes}
 use Rattle.sids_readings.specs.Held.{held}
-use Rattle.sids_section_rules.specs.SectionTests.{whole, part_tests, connectivity_tests, overlaps}
+use Rattle.sids_section_rules.specs.SectionTests.{whole, part_tests, connectivity_tests, overlaps, IsKnown}
+use Rattle.sids_readings.proofs.Keeping.{kept}
 use Rattle.sids_readings.proofs.HeldLaws.{held_more}
 use Rattle.sids_section_rules.proofs.section_rules.with_check_rules.Goals as goal
+
+pub with_overlap_rule-requires-clause-known : goal.with_overlap_rule-requires-clause-known
+with_overlap_rule-requires-clause-known g c =
+    kept (λ fs. IsKnown fs c.args.spot.now (if_passes is_range c.args.parts.now.range)) _ _ _ _ c.with_connectivity_rules.ensures.only c.requires.known
 
 pub returns-in-Ok-with_connectivity_rules-clause-value : goal.returns-in-Ok-with_connectivity_rules-clause-value
 returns-in-Ok-with_connectivity_rules-clause-value g c told =
