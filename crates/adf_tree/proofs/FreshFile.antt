@@ -3,7 +3,7 @@ use Rattle.std.proofs.Common.{◌≡◌, ◌≢◌, ◌⊎◌, inl, inr, ℕ, ze
 use Rattle.std.proofs.lemmas.Bool.{cases_lt}
 use Rattle.std.proofs.lemmas.List.{length-replicate}
 use Rattle.std.proofs.lemmas.Grind.{same_number_lists}
-use Rattle.std.specs.Prelude.{Option, Some, None, IfSome, Result, Ok, Err, OnOk, slice_index_or}
+use Rattle.std.specs.Prelude.{Option, Some, None, IsSome, IfSome, Result, Ok, Err, OnOk, slice_index_or}
 use Rattle.std.specs.Option.{option_map}
 use Rattle.adf_format.specs.Fresh.{fresh_text, fresh_end, fresh_placement, fresh_block}
 use Rattle.adf_format.specs.Tree.{fresh_tree, depth_of, lineage, climb, families}
@@ -37,7 +37,7 @@ use Rattle.adf_tree.specs.declared.file.AdfFile.{AdfFile}
 use Rattle.adf_tree.specs.Files.{HasMeaning, IsFile, device_of, state_of}
 use Rattle.adf_tree.specs.Fresh.{IsFreshCause, IsFreshCore, fresh_error}
 use Rattle.adf_tree.specs.Opening.{IsEmpty, IsEmptyCause, IsRefused, KeepsFresh, OpensFresh, fresh_row}
-use Rattle.adf_tree.proofs.Committing.{part_later, part_rose}
+use Rattle.adf_tree.proofs.Committing.{part_later, part_rose, part_told}
 use Rattle.adf_tree.proofs.Starting.{core_same, idle_file, no_steps}
 
 -- ---- the block
@@ -254,6 +254,7 @@ torn_refused wide old mid new changes r empty image are few torn writes reads fa
       writes = (let f = r.writes in let up = part_later mid.held mid.writes changes new.held new.writes torn in omega (arith, f, up));
     },
     (let f = r.writes in omega (arith, f, writes, few)),
+    λ some. part_told mid.held mid.writes changes new.held new.writes torn (subst IsSome (sym r.held) some),
   );
 }
   where

@@ -1,5 +1,5 @@
 -- What an opening makes of the verdict of the linter, what it leaves, and why it is refused.
-use Rattle.std.specs.Prelude.{◌≡◌, ◌≢◌, ℕ, suc, cond, ◌==◌, ◌+◌, ◌*◌, ◌≤◌, Bool, true, false, List, [], ◌∷◌, map, length, Option, Some, None, IfSome}
+use Rattle.std.specs.Prelude.{◌≡◌, ◌≢◌, ℕ, suc, cond, ◌==◌, ◌+◌, ◌*◌, ◌≤◌, Bool, true, false, List, [], ◌∷◌, map, length, Option, Some, None, IsSome, IfSome}
 use Rattle.std.specs.Option.{option_map}
 use Rattle.adf_format.specs.declared.types.Extent.{Extent}
 use Rattle.adf_format.specs.declared.types.Format.{Format}
@@ -111,9 +111,9 @@ IsEmptyCause held before now error.ReadFault = Rose before now
 IsEmptyCause held before now error.NotEmpty = (image : List ℕ) → held ≡ Some image → image ≢ []
 IsEmptyCause held before now e = ⊥
 
--- what a refused opening leaves: only a write of the fresh bytes that failed has written, and once
+-- what a refused opening leaves: only a write of the fresh bytes that failed has written, and once; a device that told its bytes tells them
 abbrev pub RefusedLeaves : AdfError → DeviceState → DeviceState → Type 0
-RefusedLeaves error.WriteFault old new = NoCountFell old new × (new.writes ≤ old.writes + 1)
+RefusedLeaves error.WriteFault old new = NoCountFell old new × (new.writes ≤ old.writes + 1) × (IsSome old.held → IsSome new.held)
 RefusedLeaves error old new = OnlyReads old new
 
 -- a refused opening has its cause, as the model has it for a file of any bytes

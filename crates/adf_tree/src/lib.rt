@@ -11,6 +11,7 @@ mod headers;
 mod hints;
 mod looks;
 mod opening;
+mod standing;
 mod steps;
 
 pub use file::{AdfFile, OpenRefused};
