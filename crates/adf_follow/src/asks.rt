@@ -115,7 +115,8 @@ fn answering<F: OpenFiles>(alloc: Global, files: &mut F, query: &Query) -> Resul
     }
 }
 
-fn asked_node(query: &Query) -> NodeId
+/// The node that a query names.
+pub fn asked_node(query: &Query) -> NodeId
     ensures { result ≡ asked_node query.now }
 {
     match query {

@@ -13,7 +13,7 @@ mod parts;
 pub mod runs;
 mod walks;
 
-pub use asks::ask;
+pub use asks::{ask, asked_node};
 pub use edit_groups::edit_group;
 pub use edited::EditedFiles;
 pub use edits::edit_one;
