@@ -1,0 +1,14 @@
+pub mod ShelfSlots
+pub mod Meaning
+pub mod SlotLaws
+pub mod Among
+pub mod LookLaws
+pub mod FileLooks
+pub mod NumberLaws
+pub mod RestLaws
+pub mod OpenedFile
+pub mod OpenedPlace
+pub mod ClosedPlace
+pub mod LibrarySteps
+pub mod EnterLaws
+pub mod ShelfLaws

@@ -1,0 +1,4 @@
+pub mod Shelf
+pub mod Places
+pub mod Calls
+pub mod Library
