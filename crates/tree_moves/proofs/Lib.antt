@@ -14,3 +14,4 @@ pub mod MoveDone
 pub mod Relinked
 pub mod Calls
 pub mod ListTexts
+pub mod MoveWaits

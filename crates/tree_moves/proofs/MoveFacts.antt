@@ -40,7 +40,7 @@ module _ (image : List ℕ) (core : Core) (node at : NodeId) (its : Move) (may :
   abbrev above : its.row.parent ≡ Some may.parent
   above = may.looked.may.leaves.above
 
-  abbrev l : IsListed core (Some image) its.row.place may.parent its.source.listed
+  abbrev pub l : IsListed core (Some image) its.row.place may.parent its.source.listed
   l = may.looked.source_is.listed
 
   abbrev pub i : ℕ
@@ -60,7 +60,7 @@ module _ (image : List ℕ) (core : Core) (node at : NodeId) (its : Move) (may :
 
   -- ---- the list of the old parent
 
-  from_is : l.table.above ≡ its.source.from
+  pub from_is : l.table.above ≡ its.source.from
   from_is = same_Some l.table.above its.source.from (sym l.table.found ∙ may.looked.source_is.from)
 
   pub over : parent_of tree node.serial ≡ Some may.parent

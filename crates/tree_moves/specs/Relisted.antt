@@ -1,5 +1,6 @@
 -- A node leaves the list of its parent, and joins that of another, or the end of its own.
 use Rattle.std.specs.Prelude.{◌≡◌, ℕ, ◌+◌, ◌*◌, ◌/◌, ◌^◌, ◌<◌, ◌≤◌, nat_lt, Bool, true, false, if◌then◌else◌, List, ◌++◌, Option, Some, None}
+use Rattle.adf_format.specs.declared.types.Extent.{Extent}
 use Rattle.adf_format.specs.declared.types.ExtentKind.{ExtentKind}
 use Rattle.adf_format.specs.Hex.{hex_text}
 use Rattle.adf_format.specs.HeapRule.{grown_entries}
@@ -16,6 +17,7 @@ use Rattle.tree_edits.specs.declared.room.Parent.{Parent}
 use Rattle.tree_edits.specs.Joined.{OwnsTable, WritesTable, GivesTable, JoinsUnused}
 use Rattle.tree_edits.specs.Left.{MovesUp, LeavesList, entry_place, length_behind}
 use Rattle.tree_edits.specs.Linked.{FitsTable, TakesTable}
+use Rattle.tree_edits.specs.Waiting.{list_ranges, parent_ranges}
 use Rattle.tree_moves.specs.declared.place.Move.{Move}
 
 -- the entry of a node that moves
@@ -97,6 +99,10 @@ pub record Relists (limit : ℕ) (its : Move) (was now : FreeSpace) (old new : L
 pub record OwnsLists (its : Move) (heap : Heap) (bytes : List ℕ) : Type 0 where
   pub from : OwnsTable (record { row = its.source.from; table = its.source.listed.table }) heap bytes
   pub to : OwnsTable its.to heap bytes
+
+-- what a move writes of its own: in the headers of both parents, and in both tables
+abbrev pub move_ranges : Move → List Extent
+move_ranges its = list_ranges its.source.from.place its.source.listed.table ++ parent_ranges its.to
 
 -- the blocks that may wait: of a longer table and the header, and of a gift
 abbrev pub open_cost : ChildTable → Option ℕ → ℕ

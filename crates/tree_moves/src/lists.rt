@@ -1,17 +1,19 @@
 //! An entry leaves one list and joins another, or the end of its own.
 
-ghost use Rattle.std.specs.Prelude.{◌≡◌, ◌≤◌, ◌<◌, ◌^◌, ◌+◌, ◌*◌, ◌/◌, true, IfOk, IfSome, OnOk};
+ghost use Rattle.std.specs.Prelude.{◌≡◌, ◌≤◌, ◌<◌, ◌^◌, ◌+◌, ◌*◌, ◌/◌, ◌++◌, [], ◌∷◌, true, IfOk, IfSome, OnOk};
 ghost use Rattle.adf_format.specs.HeapRule.{grown_entries};
 ghost use Rattle.adf_format.specs.RecordFields.{table_length};
 ghost use Rattle.cg_io.specs.Answers.{AnswersWrite, IsRefusal, IsUntold, OnlyReads};
 ghost use Rattle.cg_io.specs.Blocks.{Both};
 ghost use Rattle.file_heap.specs.Heap.{IsThreaded, MayGive};
-ghost use Rattle.tree_edits.specs.Joined.{LacksTable};
+ghost use Rattle.field_access.specs.Fields.{WaitsWithin, range};
+ghost use Rattle.tree_edits.specs.Joined.{LacksTable, extents_of_table};
+ghost use Rattle.tree_edits.specs.Waiting.{WaitsInRoom, IfTold, list_ranges, parent_ranges, table_room};
 ghost use Rattle.tree_edits.specs.Left.{leave_cost};
-ghost use Rattle.tree_edits.specs.Linked.{FitsTable};
+ghost use Rattle.tree_edits.specs.Linked.{FitsTable, longer_length};
 ghost use Rattle.tree_edits.specs.Taken.{IsReady, KeepsHeap, IsRoomless};
 ghost use Rattle.tree_moves.specs.Movable.{IsMoveNear};
-ghost use Rattle.tree_moves.specs.Relisted.{moved_entry, kept_fields, longer_table, table_in, OpensLonger, OpensIn, open_cost, MovesOver, MovesLast, MovesBy, ClosesIn, close_cost, IsListNear, Relists, OwnsLists, link_cost, move_cost};
+ghost use Rattle.tree_moves.specs.Relisted.{moved_entry, kept_fields, longer_table, table_in, OpensLonger, OpensIn, open_cost, MovesOver, MovesLast, MovesBy, move_ranges, ClosesIn, close_cost, IsListNear, Relists, OwnsLists, link_cost, move_cost};
 
 use crate::place::Move;
 use adf_chunks::{NodeEntry, encode_entry};
@@ -67,6 +69,8 @@ fn open_longer<S: Space>(
     requires near { place + table_length (grown_entries parent.table.count) ≤ 2 ^ 44 }
     ensures opened { OnOk result (Both (OpensLonger parent place entry.now) (S.image space.old)
         (S.image space.new)) }
+    ensures waits { OnOk result (WaitsWithin (range place (longer_length parent)
+        ∷ parent_ranges parent) (S.waiting space.old) (S.waiting space.new)) }
     ensures table { IfOk result (λ table. table ≡ longer_table parent place) }
     ensures writes { AnswersWrite S.is_sound S.state S.waiting
         (12 + table_length (grown_entries parent.table.count) / 4096) OnlyReads (IsRefusal ⊥)
@@ -105,6 +109,8 @@ fn open_list<S: Space>(
     requires fits { FitsTable parent room }
     ensures opened { OnOk result (Both (OpensIn parent room entry.now) (S.image space.old)
         (S.image space.new)) }
+    ensures waits { OnOk result (WaitsWithin (table_room parent room ++ parent_ranges parent)
+        (S.waiting space.old) (S.waiting space.new)) }
     ensures table { IfOk result (λ table. table ≡ table_in parent room) }
     ensures writes { AnswersWrite S.is_sound S.state S.waiting (open_cost parent.table room)
         OnlyReads (IsRefusal ⊥) space.old space.new result }
@@ -130,6 +136,9 @@ fn move_over<S: Space>(
     requires unused { table.count < table.entries }
     ensures moved { OnOk result (Both (MovesOver its.now table entry.now) (S.image space.old)
         (S.image space.new)) }
+    ensures waits { OnOk result (WaitsWithin (list_ranges its.now.source.from.place
+        its.now.source.listed.table ++ list_ranges its.now.to.row.place table)
+        (S.waiting space.old) (S.waiting space.new)) }
     ensures writes { AnswersWrite S.is_sound S.state S.waiting
         (4 + leave_cost its.now.source.listed) OnlyReads (IsRefusal ⊥) space.old space.new result }
 {
@@ -150,6 +159,8 @@ fn move_last<S: Space>(space: &mut S, listed: Listed, entry: &[u8; 44]) -> Resul
     requires list { IsListNear listed }
     ensures moved { OnOk result (Both (MovesLast listed entry.now) (S.image space.old)
         (S.image space.new)) }
+    ensures waits { OnOk result (WaitsWithin (extents_of_table listed.table)
+        (S.waiting space.old) (S.waiting space.new)) }
     ensures writes { AnswersWrite S.is_sound S.state S.waiting (leave_cost listed) OnlyReads
         (IsRefusal ⊥) space.old space.new result }
 {
@@ -178,6 +189,9 @@ fn move_entry<S: Space>(
     requires same { its.now.last ≡ true → table.count ≡ its.now.source.listed.table.count }
     ensures moved { OnOk result (Both (MovesBy its.now.last its.now table entry.now)
         (S.image space.old) (S.image space.new)) }
+    ensures waits { OnOk result (WaitsWithin (list_ranges its.now.source.from.place
+        its.now.source.listed.table ++ list_ranges its.now.to.row.place table)
+        (S.waiting space.old) (S.waiting space.new)) }
     ensures writes { AnswersWrite S.is_sound S.state S.waiting (link_cost its.now) OnlyReads
         (IsRefusal ⊥) space.old space.new result }
 {
@@ -205,6 +219,9 @@ fn close_list<S: Space>(
         → MayGive table.place (table_length table.entries) heap.old.work.heap) }
     ensures given { OnOk result (Both (ClosesIn table room heap.old.work heap.new.work)
         (S.image space.old) (S.image space.new)) }
+    ensures waits { OnOk result (IfTold (S.image space.old)
+        (WaitsInRoom (extents_of_table table) heap.old.work.heap heap.new.work.heap
+        (S.waiting space.old) (S.waiting space.new))) }
     ensures kept { KeepsHeap heap.old heap.new }
     ensures writes { AnswersWrite S.is_sound S.state S.waiting (close_cost room) OnlyReads
         (IsRefusal (IsUntold (S.image space.old))) space.old space.new result }
@@ -230,6 +247,8 @@ pub(crate) fn relist<S: Space>(space: &mut S, heap: &mut Heap, its: &Move) -> Re
     requires same { its.now.last ≡ true → its.now.to.table ≡ its.now.source.listed.table }
     ensures listed { OnOk result (Both (Relists heap.old.limit its.now heap.old.work
         heap.new.work) (S.image space.old) (S.image space.new)) }
+    ensures waits { OnOk result (IfTold (S.image space.old) (WaitsInRoom (move_ranges its.now)
+        heap.old.work.heap heap.new.work.heap (S.waiting space.old) (S.waiting space.new))) }
     ensures kept { KeepsHeap heap.old heap.new }
     ensures writes { AnswersWrite S.is_sound S.state S.waiting (move_cost its.now) OnlyReads
         (IsRoomless (LacksTable heap.old.limit its.now.to heap.old.work.heap)

@@ -8,6 +8,7 @@ ghost use Rattle.cg_io.specs.Answers.{AnswersWrite, OnlyReads};
 ghost use Rattle.cg_io.specs.Blocks.{Both};
 ghost use Rattle.tree_edits.specs.Rows.{AreNear, Means};
 ghost use Rattle.tree_edits.specs.Edits.{Does, Refuses, KeepsCore, memory_of};
+ghost use Rattle.tree_edits.specs.Waiting.{Reaches};
 ghost use Rattle.tree_moves.specs.Movable.{IsMovable, IsMoveCause};
 ghost use Rattle.tree_moves.specs.Moved.{MovesWithin};
 
@@ -31,6 +32,8 @@ pub fn move_to<S: Space>(
         (λ bytes. (tree : Tree) × (p : Placement) × Means bytes tree p (memory_of core.old)) }
     ensures done { OnOk result (Both (Does (Edit.Move node at) core.old core.new)
         (S.image space.old) (S.image space.new)) }
+    ensures reached { OnOk result (IfSome (S.image space.old) (Reaches (Edit.Move node at)
+        core.old core.new (S.waiting space.old) (S.waiting space.new))) }
     ensures allowed { OnOk result (IsMovable core.old node at (S.image space.old)) }
     ensures refused { IfErr result (λ e. IfSome (S.image space.old)
         (Refuses (Edit.Move node at) core.old e)) }

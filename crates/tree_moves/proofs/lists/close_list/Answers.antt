@@ -3,6 +3,9 @@ use Rattle.std.specs.Prelude.{OnOk}
 use Rattle.cg_io.specs.Blocks.{Both}
 use Rattle.tree_moves.specs.Relisted.{ClosesIn, close_cost}
 use Rattle.tree_moves.proofs.Relinked.{closes_none}
+use Rattle.tree_edits.proofs.WaitSteps.{told_always}
+use Rattle.tree_edits.proofs.Waiting.{room_begins}
+use Rattle.tree_edits.specs.Joined.{extents_of_table}
 use Rattle.tree_moves.proofs.lists.close_list.Goals as goal
 
 pub returns-in-Some-clause-given : goal.returns-in-Some-clause-given
@@ -16,3 +19,7 @@ returns-in-Some-clause-writes g c =
 
 pub returns-in-None-clause-given : goal.returns-in-None-clause-given
 returns-in-None-clause-given g c = closes_none c.args.table c.args.room c.args.heap.now.work (g.S.ReadBytes.image c.args.space.now) c.in-None.is
+
+pub returns-in-None-clause-waits : goal.returns-in-None-clause-waits
+returns-in-None-clause-waits g c =
+    told_always (g.S.ReadBytes.image c.args.space.now) _ (room_begins (extents_of_table c.args.table) c.args.heap.now.work.heap (g.S.ReadBytes.waiting c.args.space.now))

@@ -1,8 +1,13 @@
-use Rattle.std.proofs.Common.{arith, sym, subst, Bool}
+use Rattle.std.proofs.Common.{arith, sym, subst, Bool, ◌+◌, [], ◌∷◌, ◌++◌}
 use Rattle.std.specs.Prelude.{OnOk}
 use Rattle.cg_io.specs.Blocks.{Both}
 use Rattle.tree_moves.specs.Relisted.{MovesBy}
 use Rattle.tree_moves.proofs.Relinked.{leaves_by, leaves_within}
+use Rattle.std.proofs.lemmas.Result.{on_ok_weaker}
+use Rattle.field_access.specs.Fields.{range}
+use Rattle.field_access.proofs.WaitLaws.{within_later, within_self, within_then, within_right, waits_wider}
+use Rattle.tree_edits.specs.Waiting.{list_ranges}
+use Rattle.tree_edits.specs.Joined.{extents_of_table}
 use Rattle.tree_moves.proofs.lists.move_entry.Goals as goal
 
 pub move_last-requires-clause-list : goal.move_last-requires-clause-list
@@ -29,3 +34,13 @@ returns-clause-writes g c =
     let cost = leaves_by c.args.its.now.source.listed in
     let w = c.move_over.ensures.writes in
     record { sound = w.sound; waits = (let n = w.waits in omega (arith, n, cost)); effect = w.effect; cause = w.cause }
+
+pub returns-then-its-clause-waits : goal.returns-then-its-clause-waits
+returns-then-its-clause-waits g c =
+    let its = c.args.its.now in
+    let from = list_ranges its.source.from.place its.source.listed.table in
+    let to = list_ranges its.to.row.place c.args.table in
+    let table = extents_of_table c.args.table in
+    on_ok_weaker c.move_last.result
+    (λ w. waits_wider table (from ++ to) _ _ (within_then table to (from ++ to) (within_later (range (its.to.row.place + 68) 28) table table (within_self table)) (within_right from to)) w)
+    c.move_last.ensures.waits

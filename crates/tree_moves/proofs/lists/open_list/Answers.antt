@@ -1,4 +1,4 @@
-use Rattle.std.proofs.Common.{◌≡◌, ◌+◌, ◌/◌, ℕ, arith, sym, ap, subst, Option}
+use Rattle.std.proofs.Common.{◌≡◌, ◌+◌, ◌/◌, ℕ, arith, sym, ap, subst, Option, [], ◌++◌, List}
 use Rattle.std.specs.Prelude.{OnOk, IfOk}
 use Rattle.adf_format.specs.HeapRule.{grown_entries}
 use Rattle.adf_format.specs.Parts.{table_length}
@@ -7,6 +7,9 @@ use Rattle.node_reads.specs.declared.header.ChildTable.{ChildTable}
 use Rattle.tree_edits.specs.Linked.{FitsTable}
 use Rattle.tree_moves.specs.Relisted.{OpensIn, open_cost, table_in}
 use Rattle.tree_moves.proofs.Relinked.{opens_none}
+use Rattle.field_access.specs.Fields.{WaitsWithin}
+use Rattle.field_access.proofs.WaitLaws.{waits_none}
+use Rattle.tree_edits.specs.Waiting.{table_room, parent_ranges}
 use Rattle.tree_moves.proofs.lists.open_list.Goals as goal
 
 pub open_longer-requires-clause-full : goal.open_longer-requires-clause-full
@@ -37,3 +40,10 @@ returns-in-None-clause-opened g c = opens_none c.args.parent c.args.room c.args.
 
 pub returns-in-None-clause-table : goal.returns-in-None-clause-table
 returns-in-None-clause-table g c = sym (ap (table_in c.args.parent) c.in-None.is)
+
+pub returns-in-Some-clause-waits : goal.returns-in-Some-clause-waits
+returns-in-Some-clause-waits g c =
+    subst (λ (o : Option ℕ). OnOk c.open_longer.result (WaitsWithin (table_room c.args.parent o ++ parent_ranges c.args.parent) (g.S.ReadBytes.waiting c.args.space.now) (g.S.ReadBytes.waiting c.open_longer.new.space))) (sym c.in-Some.is) c.open_longer.ensures.waits
+
+pub returns-in-None-clause-waits : goal.returns-in-None-clause-waits
+returns-in-None-clause-waits g c = waits_none (table_room c.args.parent c.args.room ++ parent_ranges c.args.parent) (g.S.ReadBytes.waiting c.args.space.now)

@@ -1,14 +1,17 @@
-use Rattle.std.proofs.Common.{◌∙◌, ◌+◌, ◌^◌, ◌<◌, ◌≤◌, arith, ap, sym, subst}
+use Rattle.std.proofs.Common.{◌∙◌, ◌+◌, ◌^◌, ◌<◌, ◌≤◌, arith, ap, sym, subst, [], ◌++◌}
 use Rattle.adf_format.specs.Parts.{table_length}
 use Rattle.cg_io.specs.Answers.{IsUntold}
 use Rattle.cg_io.proofs.ReadLaws.{few_only, only_then}
 use Rattle.node_reads.specs.declared.header.ChildTable.{ChildTable}
-use Rattle.tree_edits.specs.Joined.{LacksTable}
+use Rattle.tree_edits.specs.Joined.{LacksTable, extents_of_table}
 use Rattle.tree_edits.specs.Linked.{TakesTable}
 use Rattle.tree_edits.proofs.CreateDone.{told_both}
 use Rattle.tree_edits.proofs.LinkPut.{refused_behind}
-use Rattle.tree_moves.specs.Relisted.{MovesBy, OpensIn}
+use Rattle.tree_moves.specs.Relisted.{MovesBy, OpensIn, move_ranges}
 use Rattle.tree_moves.proofs.Relinked.{in_near, in_unused, in_count, grows_by, opens_again, moves_again, linked_held, threads_held, old_held, relists_held}
+use Rattle.tree_edits.proofs.WaitSteps.{told_both_then, told_two_behind}
+use Rattle.tree_edits.specs.Waiting.{WaitsInRoom, TakesInRoom, IfTold, table_room}
+use Rattle.tree_moves.proofs.MoveWaits.{move_waits}
 use Rattle.tree_moves.proofs.lists.relist.Goals as goal
 
 pub returns-in-Err-clause-writes : goal.returns-in-Err-clause-writes
@@ -107,3 +110,23 @@ returns-in-Err-close_list-clause-writes g c =
       cause = refused_behind (LacksTable heap.limit its.to heap.work.heap) (IsUntold (g.S.ReadBytes.image c.move_entry.new.space)) (IsUntold (g.S.ReadBytes.image c.args.space.now)) (λ x. told_one (told_two (told_three x)))
           _ (g.S.ReadBytes.state c.move_entry.new.space).faults _ c.in-Err-close_list.error three.faults c.in-Err-close_list.ensures.writes.cause;
     }
+
+pub returns-in-Ok-close_list-clause-waits : goal.returns-in-Ok-close_list-clause-waits
+returns-in-Ok-close_list-clause-waits g c =
+    let its = c.args.its.now in
+    let a = c.args.heap.now in
+    let b = c.take_table.new.heap in
+    let d = c.close_list.new.heap in
+    let x = g.S.ReadBytes.waiting c.args.space.now in
+    let y = g.S.ReadBytes.waiting c.take_table.new.space in
+    let z = g.S.ReadBytes.waiting c.open_list.new.space in
+    let u = g.S.ReadBytes.waiting c.move_entry.new.space in
+    let v = g.S.ReadBytes.waiting c.close_list.new.space in
+    let Closed = WaitsInRoom (extents_of_table its.to.table) b.work.heap d.work.heap u v in
+    told_both_then (TakesTable a.limit its.to c.in-Ok.room a.work b.work) (g.S.ReadBytes.image c.args.space.now) (g.S.ReadBytes.image c.take_table.new.space)
+    (TakesInRoom (table_room its.to c.in-Ok.room) a.work.heap b.work.heap x y) Closed (WaitsInRoom (move_ranges its) a.work.heap d.work.heap x v)
+    c.in-Ok.ensures.takes
+    (λ t closed. move_waits its c.in-Ok.room c.in-Ok-open_list.table c.in-Ok-open_list.ensures.table a.work.heap b.work.heap d.work.heap x y z u v t c.in-Ok-open_list.ensures.waits c.in-Ok-move_entry.ensures.waits closed)
+    c.in-Ok.ensures.waits
+    (told_two_behind (OpensIn its.to c.in-Ok.room c.entry_of-entry.result) (MovesBy its.last its c.in-Ok-open_list.table c.entry_of-entry.result) (g.S.ReadBytes.image c.take_table.new.space) (g.S.ReadBytes.image c.open_list.new.space) (g.S.ReadBytes.image c.move_entry.new.space)
+    Closed Closed c.in-Ok-open_list.ensures.opened c.in-Ok-move_entry.ensures.moved (λ w. w) c.in-Ok-close_list.ensures.waits)

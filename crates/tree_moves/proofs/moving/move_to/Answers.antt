@@ -1,4 +1,4 @@
-use Rattle.std.proofs.Common.{◌+◌, inl, inr, refl, sym, ap, subst, arith}
+use Rattle.std.proofs.Common.{◌+◌, inl, inr, refl, sym, ap, subst, arith, List, ℕ, Option}
 use Rattle.std.specs.Prelude.{IfSome}
 use Rattle.std.proofs.lemmas.Result.{on_ok_weaker}
 use Rattle.cg_io.specs.Waits.{how_many}
@@ -7,11 +7,13 @@ use Rattle.tree_edits.specs.declared.memory.Core.{Core}
 use Rattle.tree_edits.specs.Taken.{IsReady}
 use Rattle.tree_edits.proofs.Causes.{where_ok}
 use Rattle.tree_edits.proofs.CreateDone.{made_in, means_ready_held}
-use Rattle.tree_moves.specs.Relisted.{Relists, move_cost}
+use Rattle.tree_moves.specs.Relisted.{Relists, move_cost, move_ranges}
 use Rattle.tree_moves.proofs.Calls.{near_row, near_again, fits_all, list_near, relist_cause, memory_causes, memory_refuses}
 use Rattle.tree_moves.proofs.MoveDone.{done}
 use Rattle.tree_moves.proofs.Owned.{owns_held}
 use Rattle.tree_moves.proofs.Refused.{refuses_held, place_is_cause}
+use Rattle.tree_edits.specs.Waiting.{WaitsInRoom, IfTold}
+use Rattle.tree_moves.proofs.MoveWaits.{move_reached}
 use Rattle.tree_moves.proofs.moving.move_to.Goals as goal
 
 pub returns-in-Err-clause-refused : goal.returns-in-Err-clause-refused
@@ -109,3 +111,16 @@ returns-clause-writes g c = (
     cause = memory_causes c.args.core.now c.args.node c.args.at (g.S.ReadBytes.image c.args.space.now) c.in-Ok.its c.in-Ok.ensures.may c.shift.result _ _ c.shift.ensures.cause;
   },
 )
+
+pub returns-clause-reached : goal.returns-clause-reached
+returns-clause-reached g c =
+    let core = c.args.core.now in
+    let is : Core = record { heap = c.relist.new.heap; rows = c.shift.new.rows; wide = core.wide; writable = core.writable } in
+    let its = c.in-Ok.its in
+    let a = core.heap.work.heap in
+    let d = c.relist.new.heap.work.heap in
+    let z = g.S.ReadBytes.waiting c.relist.new.space in
+    where_ok c.shift.result _
+    (move_reached core c.args.node c.args.at its is (g.S.ReadBytes.image c.args.space.now) (g.S.ReadBytes.waiting c.args.space.now) z c.in-Ok.ensures.may
+    (subst (λ (blocks : List ℕ). IfTold (g.S.ReadBytes.image c.args.space.now) (WaitsInRoom (move_ranges its) a d blocks z)) c.in-Ok.ensures.reads.waits
+    (subst (λ (o : Option (List ℕ)). IfTold o (WaitsInRoom (move_ranges its) a d (g.S.ReadBytes.waiting c.find_move.new.space) z)) c.in-Ok.ensures.reads.bytes c.in-Ok-relist.ensures.waits)))
