@@ -26,7 +26,7 @@ use Rattle.tree_edits.specs.Left.{entry_place, length_behind}
 use Rattle.tree_edits.specs.Rows.{Means}
 use Rattle.tree_edits.specs.Waiting.{WaitsInRoom, TakesInRoom, IfTold, Reaches, list_ranges, parent_ranges, table_room}
 use Rattle.tree_edits.proofs.Waiting.{more_own, own_written, then_own, room_then, taken_then, list_lies, reaches_room}
-use Rattle.tree_edits.proofs.WaitSteps.{waits_both, part_of_table, fields_within}
+use Rattle.tree_edits.proofs.WaitSteps.{behind_own, part_of_table}
 use Rattle.tree_moves.specs.declared.place.Move.{Move}
 use Rattle.tree_moves.specs.Movable.{MayMove}
 use Rattle.tree_moves.specs.Relisted.{IsListNear, move_ranges, longer_table, table_in}
@@ -34,24 +34,11 @@ use Rattle.tree_moves.proofs.MoveFacts.{over, from_is, l, try}
 
 -- ---- one list
 
--- the entries from a child's own on
-behind_own : (listed : Listed) → IsListNear listed → IsWithin (range (entry_place listed) (length_behind listed) ∷ []) (extents_of_table listed.table)
-behind_own listed near =
-    part_of_table listed.table (entry_place listed) (length_behind listed) (let lt = near.within in let le = near.few in omega (arith, lt, le)) (omega arith) (let lt = near.within in let le = near.few in omega (arith, lt, le))
-
--- an entry leaves a list
-pub left_waits : (header : ℕ) (listed : Listed) (x y : List ℕ) → IsListNear listed → WaitsWithin (range (entry_place listed) (length_behind listed) ∷ range (header + 68) 8 ∷ []) x y → WaitsWithin (list_ranges header listed.table) x y
-left_waits header listed x y near w =
-    waits_wider ((range (entry_place listed) (length_behind listed) ∷ []) ++ range (header + 68) 8 ∷ []) (list_ranges header listed.table) x y
-    (within_both (range (entry_place listed) (length_behind listed) ∷ []) (range (header + 68) 8 ∷ []) (list_ranges header listed.table)
-    (within_later (range (header + 68) 28) (range (entry_place listed) (length_behind listed) ∷ []) (extents_of_table listed.table) (behind_own listed near))
-    (fields_within header 68 8 listed.table (omega arith) (omega arith))) w
-
 -- an entry becomes the last of its own list
 pub last_waits : (listed : Listed) (at n m : ℕ) (x y z : List ℕ) → IsListNear listed → at ≡ entry_place listed → n ≡ length_behind listed → m ≡ 44 → WaitsWithin (range at n ∷ []) x y → WaitsWithin (range (at + n) m ∷ []) y z → WaitsWithin (extents_of_table listed.table) x z
 last_waits listed at n m x y z near here behind long v w =
     waits_then (extents_of_table listed.table) x y z
-    (waits_wider (range (entry_place listed) (length_behind listed) ∷ []) (extents_of_table listed.table) x y (behind_own listed near) (subst (λ k. WaitsWithin (range k (length_behind listed) ∷ []) x y) here (subst (λ k. WaitsWithin (range at k ∷ []) x y) behind v)))
+    (waits_wider (range (entry_place listed) (length_behind listed) ∷ []) (extents_of_table listed.table) x y (behind_own listed lt le) (subst (λ k. WaitsWithin (range k (length_behind listed) ∷ []) x y) here (subst (λ k. WaitsWithin (range at k ∷ []) x y) behind v)))
     (waits_wider (range (at + n) m ∷ []) (extents_of_table listed.table) y z
     (part_of_table listed.table (at + n) m (omega (arith, lt, le)) (omega (arith, here)) (omega (arith, here, behind, long, lt, le))) w)
   where

@@ -3,9 +3,8 @@ use Rattle.cg_io.proofs.ReadLaws.{few_only, only_then, all_refused_later}
 use Rattle.tree_edits.proofs.Taking.{then_both}
 use Rattle.std.proofs.lemmas.Result.{on_ok_weaker}
 use Rattle.tree_edits.specs.Left.{LeavesList}
-use Rattle.tree_edits.proofs.WaitSteps.{waits_both}
+use Rattle.tree_edits.proofs.WaitSteps.{waits_both, left_waits}
 use Rattle.tree_edits.specs.Waiting.{list_ranges}
-use Rattle.tree_moves.proofs.MoveWaits.{left_waits}
 use Rattle.tree_moves.proofs.lists.move_over.Goals as goal
 
 pub returns-clause-moved : goal.returns-clause-moved
@@ -26,5 +25,5 @@ returns-clause-waits g c =
     let its = c.args.its.now in
     on_ok_weaker c.join_unused.result
     (λ w. waits_both (list_ranges its.source.from.place its.source.listed.table) (list_ranges its.to.row.place c.args.table) _ _ _
-    (left_waits its.source.from.place its.source.listed _ _ c.requires.list c.in-Ok.ensures.waits) w)
+    (left_waits its.source.from.place its.source.listed _ _ c.requires.list.within c.requires.list.few c.in-Ok.ensures.waits) w)
     c.join_unused.ensures.waits
