@@ -20,11 +20,9 @@ use Rattle.adf_format.specs.LaysOut.{payloads}
 use Rattle.adf_format.specs.Changes.{heap_fields, Writes}
 use Rattle.adf_format.specs.HeapRule.{chunk, payload_length}
 use Rattle.adf_format.proofs.HeapLaws.{in_range}
-use Rattle.adf_format.proofs.HeapSteps.{cover-append}
 use Rattle.adf_format.proofs.FieldLaws.{length-in_row}
 use Rattle.adf_format.proofs.SpelledParts.{length-pointer_text, framed_long}
 use Rattle.adf_format.proofs.WrittenParts.{chunk_table_written}
-use Rattle.adf_model.specs.NodeData.{grown_range}
 use Rattle.file_heap.specs.Links.{range}
 use Rattle.file_heap.specs.Heap.{IsHeap, ChangesOnly, IsTakenWithin, TakesCover}
 use Rattle.field_access.proofs.WriteLaws.{written}

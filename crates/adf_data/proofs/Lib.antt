@@ -23,3 +23,4 @@ pub mod BlockLaws
 pub mod WholeLaws
 pub mod PartLaws
 pub mod WaitLaws
+pub mod PageLaws

@@ -4,3 +4,4 @@ pub mod Runs
 pub mod Fills
 pub mod Sizes
 pub mod Growing
+pub mod Pages

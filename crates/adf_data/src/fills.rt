@@ -10,6 +10,7 @@ ghost use Rattle.adf_data.specs.Ranges.{IsSpot, ChangesBytes, HasByte};
 ghost use Rattle.adf_data.specs.Fills.{Fills, ChangesAt, AllZero, ZeroesBytes, CopiesPart, Copies, MakesChunk};
 
 use crate::chunks::Chunk;
+use crate::pages::Page;
 use crate::ranges::{START, Spot, read_range, write_range};
 use crate::spaces::store;
 use adf_chunks::{Part, encode_head, tail};
@@ -118,7 +119,8 @@ fn copy_part<S: Space>(
         (S.state space.new).faults) }
 {
     let mut block = [0u8; 4096];
-    match read_range(space, chunks, spot, first, &mut block[..part]) {
+    let mut page = Page::new();
+    match read_range(space, &mut page, chunks, spot, first, &mut block[..part]) {
         Ok(()) => {}
         Err(error) => return Err(error),
     }

@@ -8,6 +8,7 @@ mod chunks;
 mod fills;
 mod gifts;
 mod grow;
+mod pages;
 mod place;
 mod ranges;
 mod room;

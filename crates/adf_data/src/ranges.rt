@@ -7,10 +7,12 @@ ghost use Rattle.adf_format.specs.Placement.{ChunkPart};
 ghost use Rattle.cg_io.specs.Answers.{OnlyReads, IsRefusal};
 ghost use Rattle.adf_data.specs.Chunks.{part_of, parts_of, part_at, IsSane};
 ghost use Rattle.cg_io.specs.Waits.{WaitsOnly};
+ghost use Rattle.adf_data.specs.Pages.{IsPage};
 ghost use Rattle.adf_data.specs.Ranges.{IsSpot, IsSpan, IsRead, WritesBytes, ChangesBytes, HasByte};
 
 use crate::chunks::Chunk;
-use crate::spaces::{load, store};
+use crate::pages::{Page, load_piece, piece_length};
+use crate::spaces::store;
 use adf_model::AdfError;
 use cg_io::Space;
 
@@ -106,6 +108,7 @@ fn span_at(chunks: &[Chunk], spot: &mut Spot, k: u64, most: usize) -> Span
 /// Reads bytes of the data, from one on.
 pub(crate) fn read_range<S: Space>(
     space: &mut S,
+    page: &mut Page,
     chunks: &[Chunk],
     spot: &mut Spot,
     first: u64,
@@ -116,10 +119,12 @@ pub(crate) fn read_range<S: Space>(
     requires spot { IsSpot (parts_of chunks.now) spot.old }
     requires within { first + length into.old ≤ payload_length (parts_of chunks.now) }
     requires small { first + length into.old < 2 ^ 63 }
+    requires page { IsPage (S.image space.old) page.old }
     ensures sound { S.is_sound space.new }
     ensures spot { IsSpot (parts_of chunks.now) spot.new }
     ensures read { OnOk result (IsRead (parts_of chunks.now) first (length into.old) into.new
         (S.image space.old)) }
+    ensures page { IsPage (S.image space.old) page.new }
     ensures image { S.image space.new ≡ S.image space.old }
     ensures waits { S.waiting space.new ≡ S.waiting space.old }
     ensures effect { OnlyReads (S.state space.old) (S.state space.new) }
@@ -129,8 +134,9 @@ pub(crate) fn read_range<S: Space>(
     let mut done = 0;
     while done < into.len() {
         let span = span_at(chunks, spot, first + done as u64, into.len() - done);
-        load(space, span.place, &mut into[done..done + span.length])?;
-        done += span.length;
+        let count = piece_length(span.place, span.length);
+        load_piece(space, page, span.place, &mut into[done..done + count])?;
+        done += count;
     }
     Ok(())
 }

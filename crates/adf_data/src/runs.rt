@@ -17,6 +17,7 @@ ghost use Rattle.adf_data.specs.Ranges.{HasByte};
 ghost use Rattle.adf_data.specs.Runs.{EndsIn, run_bytes, run_at, RunsRead, WritesRuns, ChangesPayloads, IsShort, Holds, NoRuns, WritesElements, ChangesDataAlone, payload_extents};
 
 use crate::chunks::{Chunk, list_chunks};
+use crate::pages::Page;
 use crate::place::DataPlace;
 use crate::ranges::{START, chunk_of, read_range, write_range};
 use adf_model::{AdfError, Listing, Run, Runs, Text};
@@ -101,12 +102,14 @@ fn read_each<S: Space>(
     ensures cause { IfErr result (IsRefusal ⊥ (S.state space.old).faults
         (S.state space.new).faults) }
 {
+    let mut page = Page::new();
     let mut spot = START;
     let mut done = 0;
     for i in 0..runs.len() {
         let stretch = stretch_at(runs, i, element);
         read_range(
             space,
+            &mut page,
             chunks,
             &mut spot,
             stretch.first,

@@ -1,6 +1,7 @@
 use Rattle.std.proofs.Common.{◌≡◌, ◌≤◌, ◌-◌, length}
 use Rattle.cg_io.specs.Answers.{OnlyReads}
 use Rattle.adf_data.specs.Chunks.{parts_of}
+use Rattle.adf_data.specs.Pages.{IsPage}
 use Rattle.adf_data.specs.Ranges.{IsSpot, IsRead}
 use Rattle.adf_data.proofs.ranges.read_range.Given as goal
 
@@ -12,6 +13,7 @@ invariant-loop-done g l = record {
   image : g.S.ReadBytes.image l.space ≡ g.S.ReadBytes.image l.fn.space;
   waits : g.S.ReadBytes.waiting l.space ≡ g.S.ReadBytes.waiting l.fn.space;
   looks : OnlyReads (g.S.ReadBytes.state l.fn.space) (g.S.ReadBytes.state l.space);
+  page : IsPage (g.S.ReadBytes.image l.fn.space) l.page;
   spot : IsSpot (parts_of l.chunks) l.spot;
   read : IsRead (parts_of l.chunks) l.first l.done l.into (g.S.ReadBytes.image l.fn.space);
 }

@@ -1,4 +1,6 @@
-use Rattle.std.proofs.Common.{◌≡◌, ◌+◌, ◌-◌, ◌≤◌, length, arith, ◌∙◌, subst}
+use Rattle.std.proofs.Common.{◌≡◌, ℕ, ◌+◌, ◌-◌, ◌≤◌, List, length, arith, ◌∙◌, subst, sym}
+use Rattle.std.specs.Prelude.{Option}
+use Rattle.adf_data.specs.Pages.{IsPage}
 use Rattle.adf_format.specs.HeapRule.{payload_length}
 use Rattle.adf_data.specs.Chunks.{parts_of}
 use Rattle.adf_data.specs.Ranges.{IsRead}
@@ -21,6 +23,7 @@ loop-i-preserved g c =
       image = c.read_range.ensures.image ∙ c.loop-i.invariant.image;
       waits = c.read_range.ensures.waits ∙ c.loop-i.invariant.waits;
       looks = only_then (g.S.ReadBytes.state c.args.space.now) (g.S.ReadBytes.state c.loop-i.space) (g.S.ReadBytes.state c.read_range.new.space) c.loop-i.invariant.looks c.read_range.ensures.effect;
+      page = (let w = c.read_range.ensures.page in let e = c.loop-i.invariant.image in subst (λ (i : Option (List ℕ)). IsPage i c.read_range.new.page) e w);
       spot = c.read_range.ensures.spot;
       read = runs_more (parts_of c.args.chunks.now) c.args.element c.args.runs.now c.loop-i.i c.loop-i.done c.stretch_at-stretch.result.count _ c.loop-i.into c.read_range.new.into (g.S.ReadBytes.image c.args.space.now) (g.S.ReadBytes.image c.loop-i.space)
           c.loop-i.invariant.image c.loop-i-test.true c.loop-i.invariant.read
@@ -28,3 +31,6 @@ loop-i-preserved g c =
           (subst (λ n. IsRead (parts_of c.args.chunks.now) c.stretch_at-stretch.result.first n c.read_range.new.into (g.S.ReadBytes.image c.loop-i.space)) (span_taken c.loop-i.done c.stretch_at-stretch.result.count c.loop-i.into small).1 c.in_ok-read_range.ensures.read))
           piece s.count (let e = s.ends (payload_length (parts_of c.args.chunks.now)) c.requires.within in let f = s.first in omega (arith, e, f)) small;
     }
+
+pub read_range-requires-clause-page : goal.read_range-requires-clause-page
+read_range-requires-clause-page g c = subst (λ (i : Option (List ℕ)). IsPage i c.loop-i.page) (sym c.loop-i.invariant.image) c.loop-i.invariant.page
