@@ -89,7 +89,7 @@ module _ (image : List ℕ) (tree : Tree) (p : Placement) (touched ranges : List
       let one = alone b in (
         omega (arith, up, rise),
         λ e live untouched. beside e b (λ low high. untouched (subst (Contains touched)
-        (one_extent (live_extents tree.wide p) b (omega (arith, one)) at.part e at.live at.low at.high live low high) at.open')),
+            (one_extent (live_extents tree.wide p) b (omega (arith, one)) at.part e at.live at.low at.high live low high) at.open')),
       )
 
   pub may_be_written : (b : ℕ) → 0 < cover (heap_fields ++ room ranges p.heap after) b → MayWrite touched tree.wide p after.end b
@@ -100,9 +100,9 @@ module _ (image : List ℕ) (tree : Tree) (p : Placement) (touched ranges : List
       | inr no_gap ↦ elim (less_or 0 (cover ranges b)) [
         | inl mine ↦ of_own b mine
         | inr not_mine ↦ of_growth b (
-          let s = cover-append heap_fields (room ranges p.heap after) b in
-          let t = cover-append p.heap.gaps (extent ExtentKind.Filler (p.heap.end + 1) (after.end - p.heap.end) ∷ ranges) b in
-          omega (arith, s, t, some, no_field, no_gap, not_mine))
+            let s = cover-append heap_fields (room ranges p.heap after) b in
+            let t = cover-append p.heap.gaps (extent ExtentKind.Filler (p.heap.end + 1) (after.end - p.heap.end) ∷ ranges) b in
+            omega (arith, s, t, some, no_field, no_gap, not_mine))
       ]
     ]
   ]
