@@ -11,6 +11,7 @@ use Rattle.adf_model.specs.Placing.{place_group}
 use Rattle.adf_model.specs.Torn.{TornAt, TornGroup}
 use Rattle.adf_model.specs.Untouched.{KeepsRest, KeepsTail, MayWrite, group_touched}
 use Rattle.cg_io.specs.Cause.{Rose}
+use Rattle.cg_io.specs.Waits.{Waits}
 use Rattle.block_draft.specs.Changes.{with_changes, IsPartWritten, AreChanges, raised_by}
 
 -- they are torn at a block, as a write of the bytes that were wanted
@@ -24,6 +25,13 @@ PartIsTorn =
 abbrev pub AreReached : List Extent → Bool → Placement → ℕ → List (ℕ × List ℕ) → Type 0
 AreReached touched wide p end changes =
     AllByRecursion (λ n. (b : ℕ) × (b / 4096 ≡ n) × MayWrite touched wide p end b) (keys_of changes)
+
+-- so it is where each block that waits has such a byte
+abbrev pub WaitsAreReached : Type 0
+WaitsAreReached =
+    (touched : List Extent) (wide : Bool) (p : Placement) (end : ℕ) (changes : List (ℕ × List ℕ))
+    → ((n : ℕ) → Waits (keys_of changes) n → (b : ℕ) × (b / 4096 ≡ n) × MayWrite touched wide p end b)
+    → AreReached touched wide p end changes
 
 -- Where the changed blocks make a layout of the tree that a group was to leave, placed by the rule of the heap, and other
 -- than before only as a done group may make it, the commit that failed left what the failed commit of a group leaves.
