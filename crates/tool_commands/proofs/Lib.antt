@@ -1,1 +1,4 @@
+pub mod CopyLaws
+pub mod NumberLaws
 pub mod Sessions
+pub mod TwoDevices

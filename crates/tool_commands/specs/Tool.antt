@@ -1,5 +1,5 @@
 -- What the commands print, how they end, and what they leave.
-use Rattle.std.specs.Prelude.{◌≡◌, ℕ, ◌<◌, ◌≤◌, ⊤, Bool, false, List, [], ◌∷◌, length, map, codes, Some, None, Option, IsSome, is_some, take, if◌then◌else◌, ◌&&◌, not, Result, Ok, Err}
+use Rattle.std.specs.Prelude.{◌≡◌, ◌≢◌, ℕ, ◌<◌, ◌≤◌, ⊤, Bool, false, List, [], ◌∷◌, length, map, codes, Some, None, Option, IsSome, is_some, take, if◌then◌else◌, ◌&&◌, not, Result, Ok, Err}
 use Rattle.std.specs.List.{list_all}
 use Rattle.std.specs.Str.{bytes_eq}
 use Rattle.std.specs.Io.KnownBytes.{Consumes, IsAtEnd}
@@ -9,6 +9,8 @@ use Rattle.adf_model.specs.Slots.{Files, Devices}
 use Rattle.adf_model.specs.Counts as device
 use Rattle.adf_model.specs.Counts.{Rose, OnlyReads}
 use Rattle.adf_model.specs.Steps.{AllLaidOut, NoCountFell}
+use Rattle.adf_repack.specs.declared.whole.Target.{Target}
+use Rattle.adf_repack.specs.declared.whole.Target.TheVariants as target
 use Rattle.cg_io.specs.Device.{DeviceState}
 use Rattle.plain_library.specs.Fresh.{MakesFresh}
 use Rattle.plain_library.specs.Library.{shelf_files, shelf_devices, standing_name, unplaced}
@@ -19,6 +21,7 @@ use Rattle.layout_report.specs.declared.Report.TheVariants as report
 use Rattle.session.specs.Session.{Scene, HasRun, IsBounded}
 use Rattle.session.specs.declared.session.Ended.{Ended}
 use Rattle.session.specs.declared.session.Ended.TheVariants as ended
+use Rattle.tool_commands.specs.Copies.{CopyEnds}
 use Rattle.tool_commands.specs.Printed.{line, EndsWith}
 use Rattle.tool_commands.specs.declared.status.Status.{Status}
 use Rattle.tool_commands.specs.declared.status.Status.TheVariants as status
@@ -58,17 +61,34 @@ abbrev pub command_wanted : List ℕ → Option ℕ → Wanted
 command_wanted command None = asks.Nothing
 command_wanted command (Some number) = command_on command number
 
--- `COMMAND FILE`, with a file that is on the shelf
-abbrev pub one_file_wanted : List (List ℕ) → List SlotState → Wanted
-one_file_wanted (command ∷ file ∷ []) slots = command_wanted command (file_number slots file)
-one_file_wanted words slots = asks.Nothing
+-- the version of the copy that the command of this name makes
+abbrev pub target_named : List ℕ → Option Target
+target_named command =
+    if bytes_eq command (codes "repack") then Some target.Same else
+    if bytes_eq command (codes "widen") then Some target.Wide else
+    if bytes_eq command (codes "narrow") then Some target.Narrow else None
+
+abbrev pub copy_between : Option Target → Option ℕ → Option ℕ → Wanted
+copy_between (Some version) (Some from) (Some to) = asks.Copy version from to
+copy_between version from to = asks.Nothing
+
+-- a copy of one file into another one
+abbrev pub copy_wanted : List ℕ → List ℕ → List ℕ → List SlotState → Wanted
+copy_wanted command from to slots = if bytes_eq from to then asks.Nothing else copy_between (target_named command) (file_number slots from) (file_number slots to)
+
+-- `COMMAND FILE` or `COMMAND A B`, with different files that are on the shelf
+abbrev pub files_wanted : List (List ℕ) → List SlotState → Wanted
+files_wanted (command ∷ file ∷ []) slots = command_wanted command (file_number slots file)
+files_wanted (command ∷ from ∷ to ∷ []) slots = copy_wanted command from to slots
+files_wanted words slots = asks.Nothing
 
 -- what the words ask for
 abbrev pub wanted : List (List ℕ) → List SlotState → Wanted
-wanted words slots = if is_session words slots then asks.Session else one_file_wanted words slots
+wanted words slots = if is_session words slots then asks.Session else files_wanted words slots
 
--- under a number that is asked for a device stands
+-- under a number that is asked for a device stands, under two numbers two devices
 abbrev pub IsOnShelf : Wanted → List SlotState → Type 0
+IsOnShelf (asks.Copy version from to) slots = (from ≢ to) × IsSome (device_at slots from) × IsSome (device_at slots to)
 IsOnShelf (asks.Init number) slots = IsSome (device_at slots number)
 IsOnShelf (asks.Lint number) slots = IsSome (device_at slots number)
 IsOnShelf (asks.Map number) slots = IsSome (device_at slots number)
@@ -114,6 +134,19 @@ pub record Reports (says : DeviceState → DeviceState → Report → List ℕ �
 -- a command on the device of a number did this to it, and all other devices are as they were
 abbrev pub OnDevice : ℕ → (DeviceState → DeviceState → Type 0) → List SlotState → List SlotState → Type 0
 OnDevice n Did old new = (device : DeviceState) × (after : DeviceState) × (device_at old n ≡ Some device) × (new ≡ with_device old n after) × Did device after
+
+-- ---- copies
+
+-- A command on the devices of two numbers did this to them, and all other devices are as they were.
+pub record OnDevices (from to : ℕ) (Did : DeviceState → DeviceState → DeviceState → DeviceState → Type 0) (old new : List SlotState) : Type 0 where
+  pub source : DeviceState
+  pub source_after : DeviceState
+  pub target : DeviceState
+  pub target_after : DeviceState
+  pub source_there : device_at old from ≡ Some source
+  pub target_there : device_at old to ≡ Some target
+  pub left : new ≡ with_device (with_device old from source_after) to target_after
+  pub did : Did source source_after target target_after
 
 -- ---- sessions
 
@@ -162,7 +195,7 @@ pub record SessionEnds (how : Ended) (old new : List SlotState) (before now : St
 
 -- ---- all commands
 
--- how a run ends, and what it leaves on the shelf: without right words the usage line; else the fresh file or a report on the device of that number alone, or a session over all
+-- how a run ends, and what it leaves on the shelf: without right words the usage line; else the fresh file or a report on the device of that number alone, a copy between the devices of two numbers, or a session over all
 abbrev pub RunEnds : Wanted → Status → List SlotState → List SlotState → Streams → Streams → Type 0
 RunEnds asks.Nothing result old new before now = (new ≡ old) × EndsWith status.Usage usage result before.taken now.taken before.sink_faults now.sink_faults × InputStays before now
 RunEnds (asks.Init n) result old new before now =
@@ -171,4 +204,8 @@ RunEnds (asks.Lint n) result old new before now =
     OnDevice n (λ device after. Reports Linted result device after before.taken now.taken before.sink_faults now.sink_faults) old new × InputStays before now
 RunEnds (asks.Map n) result old new before now =
     OnDevice n (λ device after. Reports Mapped result device after before.taken now.taken before.sink_faults now.sink_faults) old new × InputStays before now
+RunEnds (asks.Copy version from to) result old new before now =
+    OnDevices from to (λ source source_after target target_after.
+    CopyEnds version result source source_after target target_after before.taken now.taken before.sink_faults now.sink_faults) old new
+    × InputStays before now
 RunEnds asks.Session result old new before now = (how : Ended) × (result ≡ session_status how) × SessionEnds how old new before now

@@ -1,31 +1,24 @@
 //! The commands.
 
-ghost use Rattle.std.specs.Prelude.{◌≡◌, IsSome, map, string_bytes};
+ghost use Rattle.std.specs.Prelude.{◌≡◌, ◌≢◌, IsSome, map, string_bytes};
+ghost use Rattle.tool_commands.specs.Copies.{CopyEnds};
 ghost use Rattle.tool_commands.specs.Printed.{EndsWith};
-ghost use Rattle.tool_commands.specs.Tool.{InitEnds, OnDevice, Reports, RunEnds, SessionEnds, init_line, init_status, report_status, session_status, usage, wanted};
+ghost use Rattle.tool_commands.specs.Tool.{InitEnds, OnDevice, OnDevices, Reports, RunEnds, SessionEnds, init_line, init_status, report_status, session_status, usage, wanted};
 ghost use Rattle.layout_report.specs.Reports.{Linted, Mapped};
 ghost use Rattle.plain_library.specs.Shelf.{slots_of, device_at, IsShelf, IsWhole};
 
+use crate::copies::{Copied, copy_file, tell_copy};
+use crate::printing::ended;
 use crate::status::Status;
 use crate::words::{Wanted, read_words};
 use adf_model::AdfError;
+use adf_repack::Target;
 use cg_io::{Device, Sink, Source};
 use layout_report::{Report, lint_file, map_file};
 use plain_library::{Library, Shelf, make_fresh};
-use session::{Ended, print, run_session};
+use session::{Ended, run_session};
 use std::alloc::Global;
 use std::mem::replace;
-
-// Ends with a line and a status, or with the fault of the sink.
-fn ended<O: Sink>(output: &mut O, line: &[u8], status: Status) -> Status
-    ensures { EndsWith status line.now result (O.taken output.old) (O.taken output.new)
-        (O.faults output.old) (O.faults output.new) }
-{
-    match print(output, line) {
-        Ok(()) => status,
-        Err(_) => Status::SinkFault,
-    }
-}
 
 // The line that `init` prints.
 fn init_text(made: &Result<(), AdfError>) -> &'static [u8]
@@ -145,6 +138,44 @@ fn map_on<D: Device, O: Sink>(
     report_status_of(how)
 }
 
+// A copy of the file of one device into another device.
+fn copy_on<D: Device, O: Sink>(
+    alloc: Global,
+    version: Target,
+    from: u32,
+    to: u32,
+    shelf: &mut Shelf<D>,
+    output: &mut O,
+) -> Status
+    requires whole { IsWhole shelf.old }
+    requires shelf { IsShelf shelf.old }
+    requires apart { from ≢ to }
+    requires source { IsSome (device_at (slots_of D.state shelf.old) from) }
+    requires target { IsSome (device_at (slots_of D.state shelf.old) to) }
+    ensures copy { OnDevices from to (λ source source_after target target_after.
+        CopyEnds version result source source_after target target_after (O.taken output.old)
+        (O.taken output.new) (O.faults output.old) (O.faults output.new))
+        (slots_of D.state shelf.old) (slots_of D.state shelf.new) }
+    ensures whole { IsWhole shelf.new }
+    ensures shelf { IsShelf shelf.new }
+{
+    let Some(source) = shelf.take(from) else {
+        unreachable!()
+    };
+    let Some(target) = shelf.take(to) else {
+        unreachable!()
+    };
+    let Copied {
+        source,
+        target,
+        made,
+    } = copy_file(alloc, source, target, version);
+    let status = tell_copy(alloc, &made, output);
+    shelf.put_back(from, source);
+    shelf.put_back(to, target);
+    status
+}
+
 // The status with which a session ends.
 fn session_status_of(how: Ended) -> Status
     ensures { result ≡ session_status how }
@@ -232,6 +263,7 @@ pub fn run_on<D: Device, I: Source, O: Sink>(
         Wanted::Init(number) => init_on(number, shelf, output),
         Wanted::Lint(number) => lint_on(alloc, number, shelf, output),
         Wanted::Map(number) => map_on(alloc, number, shelf, output),
+        Wanted::Copy { target, from, to } => copy_on(alloc, target, from, to, shelf, output),
         Wanted::Session => session_status_of(session_on(alloc, shelf, input, output)),
     }
 }

@@ -4,6 +4,8 @@
 #![tactic(auto)]
 
 mod commands;
+mod copies;
+mod printing;
 mod status;
 mod words;
 

@@ -2,9 +2,10 @@
 
 ghost use Rattle.std.specs.Prelude.{◌≡◌, map, string_bytes, IfSome, IsSome};
 ghost use Rattle.std.specs.List.{list_all};
-ghost use Rattle.tool_commands.specs.Tool.{IsOnShelf, command_on, file_number, is_file_word, is_session, names_device, one_file_wanted, wanted};
+ghost use Rattle.tool_commands.specs.Tool.{IsOnShelf, command_on, file_number, is_file_word, is_session, names_device, copy_wanted, files_wanted, target_named, wanted};
 ghost use Rattle.plain_library.specs.Shelf.{slots_of, device_at, IsShelf, IsWhole};
 
+use adf_repack::Target;
 use cg_io::Device;
 use plain_library::Shelf;
 
@@ -19,6 +20,8 @@ pub enum Wanted {
     Lint(u32),
     /// The extents of that device's file.
     Map(u32),
+    /// A packed copy of the file of one device into another device, in a version.
+    Copy { target: Target, from: u32, to: u32 },
     /// A session over the files of the shelf.
     Session,
 }
@@ -58,11 +61,49 @@ fn command_on(command: &str, number: u32) -> Wanted
     }
 }
 
-// What is wanted where the words are not those of a session.
-fn one_file_wanted<D: Device>(words: &[String], shelf: &Shelf<D>) -> Wanted
+// The version of the copy that the command of this name makes.
+fn target_named(command: &str) -> Option<Target>
+    ensures { result ≡ target_named command.now }
+{
+    if command == "repack" {
+        Some(Target::Same)
+    } else if command == "widen" {
+        Some(Target::Wide)
+    } else if command == "narrow" {
+        Some(Target::Narrow)
+    } else {
+        None
+    }
+}
+
+// The copy of one file into another one.
+fn copy_wanted<D: Device>(command: &str, from: &str, to: &str, shelf: &Shelf<D>) -> Wanted
     requires whole { IsWhole shelf.now }
     requires shelf { IsShelf shelf.now }
-    ensures wanted { result ≡ one_file_wanted (map string_bytes words.now)
+    ensures wanted { result ≡ copy_wanted command.now from.now to.now
+        (slots_of D.state shelf.now) }
+    ensures stands { IsOnShelf result (slots_of D.state shelf.now) }
+{
+    if from == to {
+        return Wanted::Nothing;
+    }
+    let Some(target) = target_named(command) else {
+        return Wanted::Nothing;
+    };
+    let Some(from) = file_number(shelf, from) else {
+        return Wanted::Nothing;
+    };
+    let Some(to) = file_number(shelf, to) else {
+        return Wanted::Nothing;
+    };
+    Wanted::Copy { target, from, to }
+}
+
+// What is wanted where the words are not those of a session.
+fn files_wanted<D: Device>(words: &[String], shelf: &Shelf<D>) -> Wanted
+    requires whole { IsWhole shelf.now }
+    requires shelf { IsShelf shelf.now }
+    ensures wanted { result ≡ files_wanted (map string_bytes words.now)
         (slots_of D.state shelf.now) }
     ensures stands { IsOnShelf result (slots_of D.state shelf.now) }
 {
@@ -71,6 +112,7 @@ fn one_file_wanted<D: Device>(words: &[String], shelf: &Shelf<D>) -> Wanted
             Some(number) => command_on(command.as_str(), number),
             None => Wanted::Nothing,
         },
+        [command, from, to] => copy_wanted(command.as_str(), from.as_str(), to.as_str(), shelf),
         _ => Wanted::Nothing,
     }
 }
@@ -118,5 +160,5 @@ pub fn read_words<D: Device>(words: &[String], shelf: &Shelf<D>) -> Wanted
     if asks_session(words, shelf) {
         return Wanted::Session;
     }
-    one_file_wanted(words, shelf)
+    files_wanted(words, shelf)
 }

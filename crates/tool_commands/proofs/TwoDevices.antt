@@ -1,0 +1,111 @@
+-- Two devices of a shelf that are taken and put back.
+use Rattle.std.proofs.Common.{◌≡◌, ◌≢◌, ℕ, zero, suc, List, [], ◌∷◌, slice_get, map, Option, Some, None, refl, sym, ◌∙◌, ap, subst}
+use Rattle.std.specs.Option.{option_map, option_and_then}
+use Rattle.std.specs.List.{All}
+use Rattle.std.proofs.lemmas.Option.{slice_get-map}
+use Rattle.std.specs.Prelude.{IsSome}
+use Rattle.adf_model.proofs.Basics.{not_true, same_Some}
+use Rattle.cg_io.specs.Device.{DeviceState}
+use Rattle.plain_library.specs.declared.shelf.Place as code
+use Rattle.plain_library.specs.declared.shelf.Place.TheVariants as place
+use Rattle.plain_library.specs.declared.shelf.Shelf.{Shelf}
+use Rattle.plain_library.specs.declared.shelf.Slot.{Slot}
+use Rattle.plain_library.specs.Shelf.{PlaceState, SlotState, place_of, slot_of, slots_of, device_in_place, device_at, changed_at, with_device, taken, IsTaken, IsNotTaken, IsWhole, IsWholeBut}
+use Rattle.plain_library.specs.Shelf.PlaceState.{There, Taken, Gone}
+use Rattle.plain_library.proofs.ShelfSlots.{taken_and_put_back, all_at}
+
+-- ---- slots
+
+-- what stands under another number stays
+elsewhere : (change : PlaceState → PlaceState) (slots : List SlotState) (n k : ℕ) → n ≢ k → slice_get (changed_at change slots n) k ≡ slice_get slots k
+elsewhere change [] n k apart = refl
+elsewhere change (x ∷ xs) zero zero apart = absurd (apart refl)
+elsewhere change (x ∷ xs) zero (suc k) apart = refl
+elsewhere change (x ∷ xs) (suc n) zero apart = refl
+elsewhere change (x ∷ xs) (suc n) (suc k) apart = elsewhere change xs n k (λ is. apart (ap suc is))
+
+device_elsewhere : (change : PlaceState → PlaceState) (slots : List SlotState) (n k : ℕ) → n ≢ k → device_at (changed_at change slots n) k ≡ device_at slots k
+device_elsewhere change slots n k apart = ap (option_and_then (λ (s : SlotState). device_in_place s.place)) (elsewhere change slots n k apart)
+
+taken_elsewhere : (change : PlaceState → PlaceState) (slots : List SlotState) (n k : ℕ) → n ≢ k → IsTaken slots k → IsTaken (changed_at change slots n) k
+taken_elsewhere change slots n k apart is = ap (option_map (λ (s : SlotState). s.place)) (elsewhere change slots n k apart) ∙ is
+
+-- a device that is taken stays so while something else changes
+pub still_taken : (change : PlaceState → PlaceState) (slots left : List SlotState) (n k : ℕ) → n ≢ k → left ≡ changed_at change slots n → IsTaken slots k → IsTaken left k
+still_taken change slots left n k apart is taken_there = subst (λ (l : List SlotState). IsTaken l k) (sym is) (taken_elsewhere change slots n k apart taken_there)
+
+-- a device stands there still once another one is taken
+pub second_there : {D : Type 0} (state : D → DeviceState) (given : Option D) (slots left : List SlotState) (n m : ℕ) → n ≢ m → left ≡ changed_at taken slots n
+    → option_map state given ≡ device_at left m → device_at slots m ≡ option_map state given
+second_there state given slots left n m apart is said = sym (device_elsewhere taken slots n m apart) ∙ ap (λ (l : List SlotState). device_at l m) (sym is) ∙ sym said
+
+pub second_is_some : {D : Type 0} (state : D → DeviceState) (given : Option D) (o : Option DeviceState) → o ≡ option_map state given → IsSome o → given ≡ None → ⊥
+second_is_some state given o is some none = not_true (subst IsSome (is ∙ ap (option_map state) none) some)
+
+-- changes under two numbers, in either order
+changed_apart : (first then : PlaceState → PlaceState) (slots : List SlotState) (n m : ℕ) → n ≢ m → changed_at then (changed_at first slots n) m ≡ changed_at first (changed_at then slots m) n
+changed_apart first then [] n m apart = refl
+changed_apart first then (x ∷ xs) zero zero apart = absurd (apart refl)
+changed_apart first then (x ∷ xs) zero (suc m) apart = refl
+changed_apart first then (x ∷ xs) (suc n) zero apart = refl
+changed_apart first then (x ∷ xs) (suc n) (suc m) apart = ap (λ (l : List SlotState). x ∷ l) (changed_apart first then xs n m (λ is. apart (ap suc is)))
+
+-- two devices, taken and then put back as others
+pub both_put_back : (slots : List SlotState) (n m : ℕ) (a b : DeviceState) → n ≢ m
+    → with_device (with_device (changed_at taken (changed_at taken slots n) m) n a) m b ≡ with_device (with_device slots n a) m b
+both_put_back slots n m a b apart =
+    ap (λ (l : List SlotState). with_device l m b) (changed_apart taken (λ was. There a) (changed_at taken slots n) m n (λ is. apart (sym is)))
+    ∙ taken_and_put_back (with_device (changed_at taken slots n) n a) m b
+    ∙ ap (λ (l : List SlotState). with_device l m b) (taken_and_put_back slots n a)
+
+-- ---- which devices are taken
+
+-- under a number no device is taken
+abbrev IsFree : List SlotState → ℕ → Type 0
+IsFree slots k = (s : SlotState) → slice_get slots k ≡ Some s → s.place ≢ Taken
+
+there_free : (device : DeviceState) → There device ≢ Taken
+there_free device is = absurd cc
+
+-- once a device is put there, and where none is taken elsewhere
+free_put : (slots : List SlotState) (n k : ℕ) (device : DeviceState) → (k ≢ n → IsFree slots k) → IsFree (with_device slots n device) k
+free_put [] n k device free s e = absurd cc
+free_put (x ∷ xs) zero zero device free s e = λ is. there_free device (ap (λ (z : SlotState). z.place) (same_Some (record { name = x.name; place = There device }) s e) ∙ is)
+free_put (x ∷ xs) zero (suc k) device free s e = free (λ is. absurd cc) s e
+free_put (x ∷ xs) (suc n) zero device free s e = free (λ is. absurd cc) s e
+free_put (x ∷ xs) (suc n) (suc k) device free s e = free_put xs n k device (λ apart. free (λ is. apart (same_suc is))) s e
+  where
+    same_suc : suc k ≡ suc n → k ≡ n
+    same_suc is = cc
+
+free_elsewhere : (change : PlaceState → PlaceState) (slots : List SlotState) (n k : ℕ) → n ≢ k → IsFree slots k → IsFree (changed_at change slots n) k
+free_elsewhere change slots n k apart free s e = free s (sym (elsewhere change slots n k apart) ∙ e)
+
+module _ {D : Type 0} (state : D → DeviceState) where
+  not_taken_free : (there : code.Place D) → IsNotTaken there → place_of state there ≢ Taken
+  not_taken_free (place.There device) free is = there_free (state device) is
+  not_taken_free place.Taken free is = absurd free
+  not_taken_free (place.Gone husk) free is = absurd cc
+
+  free_not_taken : (there : code.Place D) → place_of state there ≢ Taken → IsNotTaken there
+  free_not_taken (place.There device) free = tt
+  free_not_taken place.Taken free = absurd (free refl)
+  free_not_taken (place.Gone husk) free = tt
+
+  whole_free : (shelf : Shelf D) → IsWhole shelf → (k : ℕ) → IsFree (slots_of state shelf) k
+  whole_free shelf whole k s e = by_slot (slice_get shelf.slots.items k) refl (sym (slice_get-map (slot_of state) shelf.slots.items k) ∙ e)
+    where
+      by_slot : (o : Option (Slot D)) → slice_get shelf.slots.items k ≡ o → option_map (slot_of state) o ≡ Some s → s.place ≢ Taken
+      by_slot None at is = absurd cc
+      by_slot (Some slot) at is =
+          subst (λ (z : SlotState). z.place ≢ Taken) (same_Some (slot_of state slot) s is)
+          (not_taken_free slot.place (all_at (λ (z : Slot D). IsNotTaken z.place) shelf.slots.items k slot whole at))
+
+  -- the first of two devices that were taken is put back, so that only the second one is taken
+  pub whole_but_second : (before after : Shelf D) (n m : ℕ) (device : DeviceState) → IsWhole before
+      → slots_of state after ≡ with_device (changed_at taken (changed_at taken (slots_of state before) n) m) n device → IsWholeBut m after
+  whole_but_second before after n m device whole is k slot e apart =
+      free_not_taken slot.place (free_put (changed_at taken (changed_at taken (slots_of state before) n) m) n k device
+      (λ other. free_elsewhere taken (changed_at taken (slots_of state before) n) m k (λ same. apart (sym same))
+      (free_elsewhere taken (slots_of state before) n k (λ same. other (sym same)) (whole_free before whole k)))
+      (slot_of state slot) (subst (λ (l : List SlotState). slice_get l k ≡ Some (slot_of state slot)) is (slice_get-map (slot_of state) after.slots.items k ∙ ap (option_map (slot_of state)) e)))
