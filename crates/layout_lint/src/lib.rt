@@ -29,7 +29,8 @@ pub mod walking;
 pub use adf_format::{Extent, ExtentKind, Extents, Format};
 pub use examine::lint;
 pub use owners::{
-    NodeNames, Owned, OwnedExtents, Surveyed, extents, owned_extents, survey, survey_places,
+    NodeNames, Owned, OwnedExtents, Surveyed, extents, extents_in, owned_extents, survey,
+    survey_places,
 };
 pub use paths::path_of;
 pub use verdict::{NodePlace, NodePlaces, Verdict};

@@ -322,8 +322,8 @@ pub fn owned_extents<B: Blocks>(
     }
 }
 
-// The extents without their owners.
-fn extents_in(alloc: Global, owned: &[Owned]) -> Result<Vec<Extent>, AllocError>
+/// The extents without their owners.
+pub fn extents_in(alloc: Global, owned: &[Owned]) -> Result<Vec<Extent>, AllocError>
     ensures { IfOk result (λ extents. extents.items ≡ map extent_of owned.now) }
 {
     let mut extents = Vec::new(alloc);
