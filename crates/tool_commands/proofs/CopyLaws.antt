@@ -1,5 +1,5 @@
 -- Why no copy was made, behind the blocks through which the file was read, and what its refusal names.
-use Rattle.std.proofs.Common.{◌≡◌, inl, refl, sym, subst}
+use Rattle.std.proofs.Common.{◌≡◌, inl, sym, subst}
 use Rattle.adf_model.specs.NamedRules.{NamesRule}
 use Rattle.adf_model.specs.declared.error.AdfError.{AdfError}
 use Rattle.adf_model.specs.declared.error.AdfError.TheVariants as error

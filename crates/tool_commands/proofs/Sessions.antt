@@ -1,10 +1,9 @@
 -- What a session leaves of a shelf.
 use Rattle.std.proofs.Common.{◌≡◌, ℕ, ◌≤◌, zero, suc, List, [], ◌∷◌, length, map, refl, sym, ◌∙◌, ap, subst}
-use Rattle.std.specs.Prelude.{Option, Some, None}
+use Rattle.std.specs.Prelude.{Option}
 use Rattle.std.specs.Io.KnownBytes.{Consumes, IsAtEnd}
-use Rattle.adf_model.specs.Slots.{Files, Device, Devices, device_at, entry_files, names_there, slot_at, name_there}
+use Rattle.adf_model.specs.Slots.{Files, Device, Devices, device_at, names_there, slot_at, name_there}
 use Rattle.adf_model.specs.Steps.{NoneFell, NoCountFell, AllLaidOut, IsLaidOutAt}
-use Rattle.adf_model.proofs.Answering.LayoutLemmas.{laid_out_at_entry}
 use Rattle.cg_io.specs.Cause.{Rose}
 use Rattle.plain_library.specs.Library.{entry_slot, shelf_file, shelf_files, shelf_devices, standing_name, unplaced}
 use Rattle.plain_library.specs.Shelf.{PlaceState, SlotState}

@@ -1,7 +1,6 @@
 -- Two devices of a shelf that are taken and put back.
-use Rattle.std.proofs.Common.{◌≡◌, ◌≢◌, ℕ, zero, suc, List, [], ◌∷◌, slice_get, map, Option, Some, None, refl, sym, ◌∙◌, ap, subst}
+use Rattle.std.proofs.Common.{◌≡◌, ◌≢◌, ℕ, zero, suc, List, [], ◌∷◌, slice_get, Option, Some, None, refl, sym, ◌∙◌, ap, subst}
 use Rattle.std.specs.Option.{option_map, option_and_then}
-use Rattle.std.specs.List.{All}
 use Rattle.std.proofs.lemmas.Option.{slice_get-map}
 use Rattle.std.specs.Prelude.{IsSome}
 use Rattle.adf_model.proofs.Basics.{not_true, same_Some}
@@ -11,7 +10,7 @@ use Rattle.plain_library.specs.declared.shelf.Place.TheVariants as place
 use Rattle.plain_library.specs.declared.shelf.Shelf.{Shelf}
 use Rattle.plain_library.specs.declared.shelf.Slot.{Slot}
 use Rattle.plain_library.specs.Shelf.{PlaceState, SlotState, place_of, slot_of, slots_of, device_in_place, device_at, changed_at, with_device, taken, IsTaken, IsNotTaken, IsWhole, IsWholeBut}
-use Rattle.plain_library.specs.Shelf.PlaceState.{There, Taken, Gone}
+use Rattle.plain_library.specs.Shelf.PlaceState.{There, Taken}
 use Rattle.plain_library.proofs.ShelfSlots.{taken_and_put_back, all_at}
 
 -- ---- slots

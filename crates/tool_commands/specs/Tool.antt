@@ -1,5 +1,5 @@
 -- What the commands print, how they end, and what they leave.
-use Rattle.std.specs.Prelude.{◌≡◌, ◌≢◌, ℕ, ◌<◌, ◌≤◌, ⊤, Bool, false, List, [], ◌∷◌, length, map, codes, Some, None, Option, IsSome, is_some, take, if◌then◌else◌, ◌&&◌, not, Result, Ok, Err}
+use Rattle.std.specs.Prelude.{◌≡◌, ◌≢◌, ℕ, ◌≤◌, ⊤, Bool, false, List, [], ◌∷◌, length, map, codes, Some, None, Option, IsSome, is_some, take, if◌then◌else◌, ◌&&◌, not, Result, Ok, Err}
 use Rattle.std.specs.List.{list_all}
 use Rattle.std.specs.Str.{bytes_eq}
 use Rattle.std.specs.Io.KnownBytes.{Consumes, IsAtEnd}
