@@ -79,7 +79,8 @@ fn output_of(alloc: Global, run: &Run) -> MemorySink {
     output
 }
 
-fn is_left(device: &MemoryDevice, left: &Left) -> bool {
+/// Whether a device is as it has to be.
+pub fn is_left(device: &MemoryDevice, left: &Left) -> bool {
     let held = device.held();
     (device.reads() > 0) == left.is_read
         && device.writes() == left.writes
