@@ -5,3 +5,4 @@ pub mod LineLaws
 pub mod CheckLaws
 pub mod PathLaws
 pub mod MeetLaws
+pub mod KeptLaws

@@ -25,18 +25,18 @@ use Rattle.cgns_check.specs.Looks.{is_link_to, waiting_below, IsSeenAs, nearest_
 
 -- ---- links
 
-and_both : (p q : Bool) → (p && q) ≡ true → (p ≡ true) × (q ≡ true)
+pub and_both : (p q : Bool) → (p && q) ≡ true → (p ≡ true) × (q ≡ true)
 and_both true q h = (refl, h)
 and_both false q h = absurd (not_true h)
 
-same_node : (a b : NodeId) → is_same_node a b ≡ true → a ≡ b
+pub same_node : (a b : NodeId) → is_same_node a b ≡ true → a ≡ b
 same_node a b h =
     let both = and_both (a.file == b.file) (a.serial == b.serial) h in
     let with_file : ℕ → NodeId = λ f. record { file = f; serial = a.serial } in
     let with_serial : ℕ → NodeId = λ s. record { file = b.file; serial = s } in
     ap with_file (eqb-true a.file b.file both.0) ∙ ap with_serial (eqb-true a.serial b.serial both.1)
 
-same_self : (a : NodeId) → is_same_node a a ≡ true
+pub same_self : (a : NodeId) → is_same_node a a ≡ true
 same_self a = ap (λ p. p && (a.serial == a.serial)) (eq-eqb a.file a.file refl) ∙ eq-eqb a.serial a.serial refl
 
 module _ (files : Files) (node : NodeId) (there : IsThere files node) where

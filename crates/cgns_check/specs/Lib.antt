@@ -5,3 +5,4 @@ pub mod Looks
 pub mod Words
 pub mod Lines
 pub mod Checked
+pub mod Kept

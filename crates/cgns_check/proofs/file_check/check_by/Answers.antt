@@ -8,7 +8,7 @@ use Rattle.cgns_check.specs.Levels.{Stage}
 use Rattle.cgns_check.specs.Words.{AreWorded}
 use Rattle.cgns_check.specs.Checked.{MayGoOn, still_to_come}
 use Rattle.cgns_check.proofs.CheckLaws.{TurnTells, SoFar, begins, goes_on, lacks, ends, stops, told_turn}
-use Rattle.cgns_check.proofs.check.check_by.Goals as goal
+use Rattle.cgns_check.proofs.file_check.check_by.Goals as goal
 
 pub nodes-init : goal.nodes-init
 nodes-init g c =

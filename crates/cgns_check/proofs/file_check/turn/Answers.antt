@@ -6,7 +6,7 @@ use Rattle.cgns_check.specs.declared.item.WalkItem.{WalkItem}
 use Rattle.cgns_check.specs.declared.fault.CheckFault.{CheckFault}
 use Rattle.cgns_check.specs.Checked.{IsNext, still_to_come}
 use Rattle.cgns_check.proofs.CheckLaws.{TurnTells, walk_refused, finder_refused, said, unsaid, numbers_told}
-use Rattle.cgns_check.proofs.check.turn.Goals as goal
+use Rattle.cgns_check.proofs.file_check.turn.Goals as goal
 
 pub returns-in-Err-clause-turn : goal.returns-in-Err-clause-turn
 returns-in-Err-clause-turn g c told =

@@ -3,7 +3,7 @@ use Rattle.adf_model.specs.Causes.{OnlyAsks}
 use Rattle.adf_model.specs.Slots.{IsTold}
 use Rattle.cgns_check.specs.Checked.{MayGoOn, still_to_come}
 use Rattle.cgns_check.proofs.CheckLaws.{SoFar}
-use Rattle.cgns_check.proofs.check.check_by.Given as goal
+use Rattle.cgns_check.proofs.file_check.check_by.Given as goal
 
 -- only questions were asked, and the lines and findings of the nodes so far, with those of the nodes to come, are those of the file
 abbrev pub invariant-nodes : goal.invariant-nodes
