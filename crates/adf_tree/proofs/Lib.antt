@@ -16,3 +16,5 @@ pub mod AskWalks
 pub mod AskEnds
 pub mod DeletesAnswer
 pub mod MovesAnswer
+pub mod DataAnswers
+pub mod Mapping

@@ -2,8 +2,10 @@
 use Rattle.std.proofs.Common.{◌≡◌, refl, sym, ◌∙◌, ap, List, ℕ}
 use Rattle.std.specs.Prelude.{Option, Some, None}
 use Rattle.adf_model.specs.declared.tree.Edit.{Edit}
-use Rattle.adf_model.specs.declared.tree.Edit.TheVariants.{Create, Delete, Link, Move, Rename, SetLabel}
+use Rattle.adf_model.specs.declared.tree.Edit.TheVariants.{Create, Delete, Link, Move, PutAll, PutPart, Rename, SetDims, SetLabel}
 use Rattle.adf_model.specs.declared.tree.NodeId.{NodeId}
+use Rattle.adf_model.specs.declared.tree.Selection.{Selection}
+use Rattle.adf_model.specs.declared.tree.Shape.{Shape}
 use Rattle.adf_tree.specs.Reached.{or_reached, with_reached}
 
 reached_parent : (at : NodeId) (name label : List ℕ) (there : Option NodeId) → Create (or_reached at there) name label ≡ with_reached (Create at name label) there
@@ -56,3 +58,28 @@ moved_there node at (Some other) = refl
 
 pub reached_move : (edit : Edit) (there : Option NodeId) (node at to : NodeId) → edit ≡ Move node at → to ≡ or_reached at there → Move node to ≡ with_reached edit there
 reached_move edit there node at to is reached = ap (Move node) reached ∙ moved_there node at there ∙ ap (λ (e : Edit). with_reached e there) (sym is)
+
+shaped_there : (at : NodeId) (shape : Shape) (there : Option NodeId) → SetDims (or_reached at there) shape ≡ with_reached (SetDims at shape) there
+shaped_there at shape None = refl
+shaped_there at shape (Some node) = refl
+
+pub reached_shape : (edit : Edit) (there : Option NodeId) (at node : NodeId) (shape : Shape) → edit ≡ SetDims at shape → node ≡ or_reached at there → SetDims node shape ≡ with_reached edit there
+reached_shape edit there at node shape is to = ap (λ (n : NodeId). SetDims n shape) to ∙ shaped_there at shape there ∙ ap (λ (e : Edit). with_reached e there) (sym is)
+
+filled_there : (at : NodeId) (bytes : List ℕ) (there : Option NodeId) → PutAll (or_reached at there) bytes ≡ with_reached (PutAll at bytes) there
+filled_there at bytes None = refl
+filled_there at bytes (Some node) = refl
+
+pub reached_data : (edit : Edit) (there : Option NodeId) (at node : NodeId) (bytes given : List ℕ) → edit ≡ PutAll at bytes → node ≡ or_reached at there → given ≡ bytes → PutAll node given ≡ with_reached edit there
+reached_data edit there at node bytes given is to same =
+    ap (λ (n : NodeId). PutAll n given) to ∙ ap (λ (xs : List ℕ). PutAll (or_reached at there) xs) same ∙ filled_there at bytes there ∙ ap (λ (e : Edit). with_reached e there) (sym is)
+
+chosen_there : (at : NodeId) (selection : Selection) (bytes : List ℕ) (there : Option NodeId) → PutPart (or_reached at there) selection bytes ≡ with_reached (PutPart at selection bytes) there
+chosen_there at selection bytes None = refl
+chosen_there at selection bytes (Some node) = refl
+
+pub reached_part : (edit : Edit) (there : Option NodeId) (at node : NodeId) (selection : Selection) (bytes given : List ℕ) → edit ≡ PutPart at selection bytes → node ≡ or_reached at there → given ≡ bytes
+    → PutPart node selection given ≡ with_reached edit there
+reached_part edit there at node selection bytes given is to same =
+    ap (λ (n : NodeId). PutPart n selection given) to ∙ ap (λ (xs : List ℕ). PutPart (or_reached at there) selection xs) same ∙ chosen_there at selection bytes there
+    ∙ ap (λ (e : Edit). with_reached e there) (sym is)

@@ -7,3 +7,4 @@ pub mod Steps
 pub mod Headers
 pub mod Groups
 pub mod Asks
+pub mod Maps

@@ -11,23 +11,13 @@ use Rattle.adf_model.specs.Steps.{is_foreign_to_edits}
 use Rattle.adf_model.specs.declared.error.AdfError.{AdfError}
 use Rattle.adf_model.specs.declared.error.AdfError.TheVariants as error
 use Rattle.adf_model.specs.declared.tree.Edit.{Edit}
-use Rattle.adf_model.specs.declared.tree.Edit.TheVariants.{Create, Delete, Rename, Move, SetLabel, Link}
+use Rattle.adf_model.specs.declared.tree.Edit.TheVariants.{Create, Link}
 use Rattle.cg_io.specs.Blocks.{Both}
 use Rattle.cg_io.specs.Waits.{how_many}
 use Rattle.tree_edits.specs.declared.memory.Core.{Core}
 use Rattle.tree_edits.specs.Edits.{Does, Refuses, KeepsCore, memory_of}
 use Rattle.tree_edits.specs.Rows.{AreNear, Means}
 use Rattle.adf_tree.specs.Files.{FileState, accepted}
-
--- the edits that there are calls for
-abbrev pub IsBuilt : Edit → Type 0
-IsBuilt (Create at wanted label) = ⊤
-IsBuilt (Rename node wanted) = ⊤
-IsBuilt (SetLabel node label) = ⊤
-IsBuilt (Link at wanted file path) = ⊤
-IsBuilt (Delete node) = ⊤
-IsBuilt (Move node to) = ⊤
-IsBuilt edit = ⊥
 
 -- the serial that an edit draws, where so many were drawn before
 abbrev pub drawn_by : Edit → ℕ → Option ℕ

@@ -7,8 +7,9 @@ ghost use Rattle.adf_tree.specs.Reached.{or_reached, with_reached};
 ghost use Rattle.adf_model.specs.declared.tree.Edit.{Edit};
 ghost use Rattle.tree_edits.specs.Edits.{memory_of};
 ghost use Rattle.tree_edits.specs.Rows.{AreNear, Means};
-ghost use Rattle.adf_tree.specs.Steps.{EditAnswers, IsBuilt};
+ghost use Rattle.adf_tree.specs.Steps.{EditAnswers};
 
+use crate::contents::{new_data, new_part, new_shape};
 use crate::hints::hints_of;
 use adf_model::{AdfError, Edit, NodeId};
 use cg_io::Space;
@@ -185,7 +186,6 @@ pub(crate) fn do_edit<S: Space>(
     requires near { AreNear core.old.wide core.old.rows.items }
     requires means { IfSome (S.image space.old)
         (λ bytes. (tree : Tree) × (p : Placement) × Means bytes tree p (memory_of core.old)) }
-    requires built { IsBuilt edit.now }
     ensures { EditAnswers S.is_sound S.image S.state S.waiting (with_reached edit.now there)
         core.old core.new space.old space.new result }
 {
@@ -221,6 +221,23 @@ pub(crate) fn do_edit<S: Space>(
             file.items(),
             path.items(),
         ),
-        _ => unreachable!(),
+        Edit::SetDims { node, shape } => {
+            new_shape(alloc, space, core, or_reached(*node, there), shape)
+        }
+        Edit::PutAll { node, bytes } => {
+            new_data(alloc, space, core, or_reached(*node, there), bytes.items())
+        }
+        Edit::PutPart {
+            node,
+            selection,
+            bytes,
+        } => new_part(
+            alloc,
+            space,
+            core,
+            or_reached(*node, there),
+            selection,
+            bytes.items(),
+        ),
     }
 }

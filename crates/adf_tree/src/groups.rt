@@ -1,11 +1,9 @@
 //! Groups of edits: all are done, or none.
 
-ghost use Rattle.std.specs.Prelude.{◌≡◌, ◌++◌, ℕ, [], false, Some, slice_get, IfErr, IfSome, OnOk};
+ghost use Rattle.std.specs.Prelude.{◌≡◌, ◌++◌, [], false, IfErr, IfSome, OnOk};
 ghost use Rattle.adf_model.specs.declared.error.AdfError.{AdfError};
-ghost use Rattle.adf_model.specs.declared.tree.Edit.{Edit};
 ghost use Rattle.adf_tree.specs.Files.{IsFile, IsWorking, state_of, device_of};
 ghost use Rattle.adf_tree.specs.Groups.{GroupAnyway, IsGroupOf, IsOfKind, RefusalLeaves, NextEnds, listed, made_of};
-ghost use Rattle.adf_tree.specs.Steps.{IsBuilt};
 
 use crate::file::AdfFile;
 use adf_model::{AdfError, Edit, EditError, NodeId, Serials};
@@ -48,7 +46,6 @@ impl<D: Device> AdfFile<D> {
     // Does the next edit of a group, and keeps the node that it made. Where it is refused the group is dropped.
     fn next_step(&mut self, edit: &Edit, created: &mut Vec<NodeId>) -> Result<(), AdfError>
         requires sound { IsWorking D.state self.old }
-        requires built { IsBuilt edit.now }
         ensures sound { IsWorking D.state self.new }
         ensures ends { NextEnds edit.now result created.old.items created.new.items
             (state_of D.state self.old) (state_of D.state self.new) }
@@ -72,8 +69,6 @@ impl<D: Device> AdfFile<D> {
     /// all edits, and the file is broken.
     pub fn edit(&mut self, edits: &[Edit]) -> Result<Serials, EditError>
         requires sound { IsFile D.state self.old }
-        requires built { (i : ℕ) (edit : Edit) → slice_get edits.now i ≡ Some edit
-            → IsBuilt edit }
         ensures sound { IsFile D.state self.new }
         ensures told { (state_of D.state self.old).broken ≡ false
             → IfSome (device_of D.state self.old).held (IsGroupOf edits.now result

@@ -3,6 +3,7 @@
 #![tactic(auto)]
 
 mod asks;
+mod contents;
 mod edits;
 mod file;
 mod fresh;
@@ -10,6 +11,7 @@ mod groups;
 mod headers;
 mod hints;
 mod looks;
+mod maps;
 mod opening;
 mod standing;
 mod steps;

@@ -2,7 +2,7 @@
 
 ghost use Rattle.adf_tree.specs.Reached.{with_reached};
 ghost use Rattle.adf_tree.specs.Files.{IsWorking, state_of};
-ghost use Rattle.adf_tree.specs.Steps.{IsBuilt, StepEnds};
+ghost use Rattle.adf_tree.specs.Steps.{StepEnds};
 
 use crate::edits::do_edit;
 use crate::file::AdfFile;
@@ -16,7 +16,6 @@ impl<D: Device> AdfFile<D> {
     /// Where it is refused, all edits in work are dropped.
     pub fn step(&mut self, edit: &Edit) -> Result<Option<u64>, AdfError>
         requires sound { IsWorking D.state self.old }
-        requires built { IsBuilt edit.now }
         ensures sound { IsWorking D.state self.new }
         ensures ends { StepEnds edit.now result (state_of D.state self.old)
             (state_of D.state self.new) }
@@ -27,7 +26,6 @@ impl<D: Device> AdfFile<D> {
     /// Does one edit of the node that was reached, where it goes through links.
     pub fn step_at(&mut self, edit: &Edit, there: Option<NodeId>) -> Result<Option<u64>, AdfError>
         requires sound { IsWorking D.state self.old }
-        requires built { IsBuilt edit.now }
         ensures sound { IsWorking D.state self.new }
         ensures ends { StepEnds (with_reached edit.now there) result (state_of D.state self.old)
             (state_of D.state self.new) }

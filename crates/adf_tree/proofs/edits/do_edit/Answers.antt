@@ -1,7 +1,7 @@
 use Rattle.std.proofs.Common.{subst}
 use Rattle.adf_model.specs.declared.tree.Edit.{Edit}
 use Rattle.adf_tree.specs.Steps.{EditAnswers}
-use Rattle.adf_tree.proofs.ReachedEdits.{reached_create, reached_deletion, reached_label, reached_link, reached_move, reached_name}
+use Rattle.adf_tree.proofs.ReachedEdits.{reached_create, reached_data, reached_deletion, reached_label, reached_link, reached_move, reached_name, reached_part, reached_shape}
 use Rattle.adf_tree.proofs.edits.do_edit.Goals as goal
 
 pub returns-in-Create : goal.returns-in-Create
@@ -33,3 +33,18 @@ pub returns-in-Move : goal.returns-in-Move
 returns-in-Move g c =
     subst (λ (e : Edit). EditAnswers g.S.ReadBytes.is_sound g.S.ReadBytes.image g.S.ReadBytes.state g.S.ReadBytes.waiting e c.args.core.now c.move_node.new.core c.args.space.now c.move_node.new.space c.move_node.result)
     (reached_move c.args.edit.now c.args.there _ _ _ c.in-Move.is c.or_reached-in-Move.ensures) c.move_node.ensures
+
+pub returns-in-SetDims : goal.returns-in-SetDims
+returns-in-SetDims g c =
+    subst (λ (e : Edit). EditAnswers g.S.ReadBytes.is_sound g.S.ReadBytes.image g.S.ReadBytes.state g.S.ReadBytes.waiting e c.args.core.now c.new_shape.new.core c.args.space.now c.new_shape.new.space c.new_shape.result)
+    (reached_shape c.args.edit.now c.args.there _ _ _ c.in-SetDims.is c.or_reached-in-SetDims.ensures) c.new_shape.ensures
+
+pub returns-in-PutAll : goal.returns-in-PutAll
+returns-in-PutAll g c =
+    subst (λ (e : Edit). EditAnswers g.S.ReadBytes.is_sound g.S.ReadBytes.image g.S.ReadBytes.state g.S.ReadBytes.waiting e c.args.core.now c.new_data.new.core c.args.space.now c.new_data.new.space c.new_data.result)
+    (reached_data c.args.edit.now c.args.there _ _ _ _ c.in-PutAll.is c.or_reached-in-PutAll.ensures c.items-in-PutAll.ensures) c.new_data.ensures
+
+pub returns-in-PutPart : goal.returns-in-PutPart
+returns-in-PutPart g c =
+    subst (λ (e : Edit). EditAnswers g.S.ReadBytes.is_sound g.S.ReadBytes.image g.S.ReadBytes.state g.S.ReadBytes.waiting e c.args.core.now c.new_part.new.core c.args.space.now c.new_part.new.space c.new_part.result)
+    (reached_part c.args.edit.now c.args.there _ _ _ _ _ c.in-PutPart.is c.or_reached-in-PutPart.ensures c.items-in-PutPart.ensures) c.new_part.ensures

@@ -13,11 +13,6 @@ loop-at-init g c = record {
   way = way_begins c.args.edits.now _ (state_of g.D.Device.state c.args.self.now) c.new-created.ensures.items c.requires.sound.none (c.requires.sound.working.idle c.requires.sound.none).core;
 }
 
-pub next_step-requires-clause-built : goal.next_step-requires-clause-built
-next_step-requires-clause-built g c =
-    let is : slice_get c.args.edits.now c.loop-at.at ≡ Some c.index-edits-at.result = slice_get_read c.args.edits.now (length c.args.edits.now) c.loop-at.at c.index-edits-at.result refl c.loop-at-test.true c.index-edits-at.is in
-    c.requires.built c.loop-at.at c.index-edits-at.result is
-
 pub loop-at-preserved : goal.loop-at-preserved
 loop-at-preserved g c =
     let is : slice_get c.args.edits.now c.loop-at.at ≡ Some c.index-edits-at.result = slice_get_read c.args.edits.now (length c.args.edits.now) c.loop-at.at c.index-edits-at.result refl c.loop-at-test.true c.index-edits-at.is in
