@@ -269,11 +269,7 @@ static COPIES: [Copying; 15] = [
 ];
 
 // Puts one more device on a shelf of at most one.
-fn add_file(
-    shelf: &mut Shelf<MemoryDevice>,
-    name: Text,
-    device: MemoryDevice,
-) -> Result<(), Fail>
+fn add_file(shelf: &mut Shelf<MemoryDevice>, name: Text, device: MemoryDevice) -> Result<(), Fail>
     requires { IsWhole shelf.old }
     ensures whole { IsWhole shelf.new }
     ensures shelf { OnOk result (IsShelf shelf.new) }
@@ -329,10 +325,7 @@ fn wrong_part(alloc: Global, copying: &Copying) -> Result<&'static str, Fail> {
     }
     match (shelf.take(0), shelf.take(1)) {
         (Some(source), Some(target))
-            if is_left(&source, &copying.source) && is_left(&target, &copying.target) =>
-        {
-            Ok("")
-        }
+            if is_left(&source, &copying.source) && is_left(&target, &copying.target) => { Ok("") }
         _ => Ok("a device"),
     }
 }
