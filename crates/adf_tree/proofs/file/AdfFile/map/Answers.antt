@@ -59,7 +59,7 @@ returns-in-Ok-extents_in-clause-ends g c =
     let file = c.args.self.now in
     let lent = c.blocks_mut-blocks.result.now in
     let owned = c.in-Ok-survey_places.found.extents in
-    maps file.core c.deref.result.now c.items.result.now (c.deref.ensures.value ∙ c.in-Ok.ensures.places) (c.items.ensures ∙ c.in-Ok-gaps.ensures.ok) (state_of state file) _ refl c.if-self.false
+    maps file.core c.deref.result.now c.items.result.now (c.deref.ensures.value ∙ c.in-Ok.ensures.places) (c.items.ensures ∙ c.in-Ok-gaps.ensures.ok) (state_of state file) (state_of state file) refl c.if-self.false
     owned c.new.result
     (of_lent file.draft lent c.blocks_mut-blocks.ensures.blocks (λ (b : BlockCache _). told_of file.core c.deref.result.now c.items.result.now (c.deref.ensures.value ∙ c.in-Ok.ensures.places) (c.items.ensures ∙ c.in-Ok-gaps.ensures.ok) (state (device_in b)).held (λ (tree : Tree) (p : Placement). OwnsPlaces tree p c.deref.result.now owned)) c.in-Ok-survey_places.ensures.all)
     (c.new.ensures ∙ c.in-Ok-extents_in.ensures ∙ ap (map extent_of) c.items-2.ensures)
