@@ -1,7 +1,7 @@
-use Rattle.std.proofs.Common.{◌∙◌, ap, map, List}
+use Rattle.std.proofs.Common.{◌∙◌, ap, map, List, arith}
 use Rattle.adf_library.specs.Library.{shelf_device}
 use Rattle.adf_library.specs.Shelf.{SlotState}
-use Rattle.adf_library.proofs.ShelfLaws.{devices_unplaced, whole_kept, ready_whole}
+use Rattle.adf_library.proofs.ShelfLaws.{devices_unplaced, whole_kept, ready_whole, same_length}
 use Rattle.adf_library.proofs.library.Library.finish.Goals as goal
 
 pub returns-clause-devices : goal.returns-clause-devices
@@ -10,3 +10,9 @@ returns-clause-devices g c = ap (λ (l : List SlotState). map shelf_device l) c.
 pub returns-clause-whole : goal.returns-clause-whole
 returns-clause-whole g c =
     whole_kept g.D.Device.state c.args.self.slots.items.items c.close_all.new.slots.items c.close_all.ensures.slots (ready_whole g.D.Device.state c.args.self.slots.items.items c.requires.ready.0)
+
+pub returns-clause-shelf : goal.returns-clause-shelf
+returns-clause-shelf g c =
+    let same = same_length g.D.Device.state c.args.self.slots.items.items c.close_all.new.slots.items c.close_all.ensures.slots in
+    let short = c.requires.ready.1 in
+    omega (arith, same, short)
