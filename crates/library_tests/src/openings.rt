@@ -34,7 +34,9 @@ fn a_file_is_opened_in_each_mode(rt: HostRuntime) -> Result<(), Fail> {
 #[test]
 fn bytes_that_are_no_layout_are_refused_by_rule_and_place(rt: HostRuntime) -> Result<(), Fail> {
     let alloc = rt.alloc();
-    let junk = MemoryDevice::new(alloc, text_of(alloc, b"no file")?);
+    let junk = text_of(alloc, b"no file")?;
+    assert!(rt; junk.items().len() == 7);
+    let junk = MemoryDevice::new(alloc, junk);
     let mut library = library_of_two(alloc, junk, empty_device(alloc))?;
     let short = Err(AdfError::Layout { rule: 1, place: 0 });
     assert!(rt; opens(&mut library, 0, Mode::ReadWrite, short));
