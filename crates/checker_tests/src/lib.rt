@@ -4,8 +4,6 @@
 #![tactic(auto)]
 
 #[cfg(test)]
-mod checks;
-#[cfg(test)]
 mod offset_rules;
 #[cfg(test)]
 mod plain_rules;

@@ -14,7 +14,7 @@ use sids_readings::{
     section_range, vertex_limit, zone_kind, zone_sizes,
 };
 use sids_rules::RuleKind;
-use sids_section_rules::{breaks_connectivity_size, breaks_sections_overlap, overlap_notes};
+use sids_section_rules::{breaks_connectivity_size, breaks_sections_overlap};
 use sids_tables::LabelKind;
 use std::alloc::Global;
 
@@ -392,29 +392,6 @@ fn rules_that_look_at_two_nodes_are_broken_by_some_and_not_by_others(rt: HostRun
         assert!(rt;
             matches!(found, Ok(is) if is == wanted),
             "at {rule} {serial} in {parent}"
-        );
-    }
-}
-
-fn noted(alloc: Global, rows: &[Row], zone: u64, serial: u64) -> Result<Option<bool>, AdfError> {
-    let mut trees = PlainTrees::new(alloc, rows, Format::Little);
-    let notes = overlap_notes(alloc, &mut trees, at(zone))?;
-    Ok(notes.get(serial))
-}
-
-#[test]
-fn sections_of_a_zone_that_overlap_earlier_ones_are_noted(rt: HostRuntime) {
-    let cases: [(u64, u64, Option<bool>); 4] = [
-        (3, 5, Some(false)),
-        (3, 20, Some(true)),
-        (3, 8, None),
-        (2, 5, None),
-    ];
-    for (zone, serial, wanted) in cases {
-        let found = noted(rt.alloc(), &ROWS, zone, serial);
-        assert!(rt;
-            matches!(found, Ok(is) if is == wanted),
-            "at {zone} {serial}"
         );
     }
 }
