@@ -4,8 +4,8 @@ use crate::runs::{Fault, Left, Run, wrong_part};
 use std::test::Fail;
 use tool_commands::Status;
 
-/// The bytes of a fresh file up to its end.
-pub const FRESH_FILE: &[u8; 512] = b"@(#)ADF Database Version A02007>\
+// The bytes of a fresh file up to its end.
+const FRESH_FILE: &[u8; 512] = b"@(#)ADF Database Version A02007>\
 AdF0                            AdF1                            \
 AdF2LLAdF3000000000000000000000000AdF400000000010A0000000001FF0000000000BA000000001000AdF5\
 fCbt000000001000000000001000000000001000000000001000000000001000000000001000Fcte\

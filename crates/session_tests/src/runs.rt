@@ -79,8 +79,7 @@ fn output_of(alloc: Global, run: &Run) -> MemorySink {
     output
 }
 
-/// Whether a device is as it has to be.
-pub fn is_left(device: &MemoryDevice, left: &Left) -> bool {
+fn is_left(device: &MemoryDevice, left: &Left) -> bool {
     let held = device.held();
     (device.reads() > 0) == left.is_read
         && device.writes() == left.writes
