@@ -4,6 +4,8 @@
 #![tactic(auto)]
 
 #[cfg(test)]
+mod checks;
+#[cfg(test)]
 mod offset_rules;
 #[cfg(test)]
 mod plain_rules;
