@@ -12,3 +12,4 @@ pub mod PutTests
 pub mod PutDone
 pub mod Counts
 pub mod PutFacts
+pub mod DataWaits

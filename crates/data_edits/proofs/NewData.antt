@@ -137,7 +137,7 @@ untold_none h heap (Some image) u parts bytes own = absurd u
 -- ---- data that are written over those that are there
 
 -- the payloads lie in their chunks
-payload_in : (image : List ℕ) (chunks : List ChunkPart) → AllByRecursion (λ (c : ChunkPart). SpellsChunk (field image c.place c.length) c.place c.length) chunks → (k : ℕ) → cover (payload_extents chunks) k ≤ cover (chunk_extents chunks) k
+pub payload_in : (image : List ℕ) (chunks : List ChunkPart) → AllByRecursion (λ (c : ChunkPart). SpellsChunk (field image c.place c.length) c.place c.length) chunks → (k : ℕ) → cover (payload_extents chunks) k ≤ cover (chunk_extents chunks) k
 payload_in image [] all k = omega arith
 payload_in image (c ∷ cs) all k =
     let one = range_within c.place c.length (c.place + 16) (c.length - 20) k (omega arith) (let l = all.0.long in omega (arith, l)) in

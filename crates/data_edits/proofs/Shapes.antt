@@ -106,12 +106,15 @@ module _ (wide : Bool) (rank end : ℕ) (few : rank ≤ 12) (end_is : end ≡ 34
       count_early true = omega arith
       count_early false = omega arith
 
-  pub shape_near : (place : ℕ) (text : List ℕ) → place + node_length wide ≤ 2 ^ 44 → place + 96 + length (take end text) ≤ 2 ^ 44
-  shape_near place text near = let f = fits wide rank few in let n = count_in wide in let t = length-take end text in omega (arith, end_is, f, n, t, near)
+  pub shape_within : (place : ℕ) (text : List ℕ) → place + 96 + length (take end text) ≤ place + node_length wide
+  shape_within place text = let f = fits wide rank few in let n = count_in wide in let t = length-take end text in omega (arith, end_is, f, n, t)
     where
       count_in : (w : Bool) → chunk_count_at w ≤ node_length w
       count_in true = omega arith
       count_in false = omega arith
+
+  pub shape_near : (place : ℕ) (text : List ℕ) → place + node_length wide ≤ 2 ^ 44 → place + 96 + length (take end text) ≤ 2 ^ 44
+  shape_near place text near = let within = shape_within place text in omega (arith, within, near)
 
 pub piece_blocks : (place end : ℕ) (text : List ℕ) → end ≤ 226 → blocks_of place (length (take end text)) ≤ 2
 piece_blocks place end text few = let t = length-take end text in two_blocks place (length (take end text)) (omega (arith, t, few))

@@ -8,10 +8,12 @@ use Rattle.adf_format.specs.Names.{data_size}
 use Rattle.adf_format.specs.Placement.{Heap, NodeParts}
 use Rattle.adf_model.specs.NodeData.{DataSpot, HoldsData, resized_spot, released_spot}
 use Rattle.adf_data.specs.declared.place.DataPlace.{DataPlace}
+use Rattle.adf_data.specs.Chunks.{Named}
 use Rattle.adf_data.specs.Growing.{sized_ranges}
 use Rattle.adf_data.specs.Runs.{Names}
 use Rattle.adf_data.specs.Sizes.{MayGiveAll}
 use Rattle.adf_records.specs.declared.NodeHeader.{NodeHeader}
+use Rattle.field_access.specs.Fields.{WaitsWithin}
 use Rattle.file_heap.specs.Heap.{FreeSpace, IsThreaded}
 use Rattle.tree_asks.specs.Headers.{dims_of}
 
@@ -59,3 +61,7 @@ abbrev pub BecomeBy : ℕ → (Option (List ℕ) → Option (List ℕ)) → Node
 BecomeBy limit change h now before later old new =
     (parts : NodeParts) (bytes : Option (List ℕ)) → OwnsData h parts bytes before old
     → Becomes limit (change bytes) parts now before later old new
+
+-- and blocks wait anew only of the chunks that the header names and of the heap's room
+abbrev pub WaitBy : NodeHeader → Heap → Heap → Option (List ℕ) → List ℕ → List ℕ → Type 0
+WaitBy h before later held old new = (parts : NodeParts) → Named (place_in h) parts held → WaitsWithin (sized_ranges parts before later) old new

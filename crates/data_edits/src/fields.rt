@@ -1,6 +1,6 @@
 //! The fields of a header that say the shape of a node, and where its data stand.
 
-ghost use Rattle.std.specs.Prelude.{◌≡◌, ◌+◌, ◌*◌, ◌^◌, ◌<◌, ◌≤◌, ◌++◌, length, map, take, OnOk};
+ghost use Rattle.std.specs.Prelude.{◌≡◌, ◌∷◌, [], ◌+◌, ◌*◌, ◌^◌, ◌<◌, ◌≤◌, ◌++◌, length, map, take, OnOk};
 ghost use Rattle.std.specs.List.{flat_map};
 ghost use Rattle.adf_format.specs.declared.types.ExtentKind.{ExtentKind};
 ghost use Rattle.adf_format.specs.Hex.{hex_text};
@@ -10,6 +10,7 @@ ghost use Rattle.adf_model.specs.Shapes.{dims_of};
 ghost use Rattle.cg_io.specs.Answers.{AnswersWrite, IsRefusal};
 ghost use Rattle.cg_io.specs.Blocks.{Both, ReadsFew};
 ghost use Rattle.disk_ptr.specs.View.{view, HasOffset};
+ghost use Rattle.field_access.specs.Fields.{WaitsWithin, range};
 ghost use Rattle.tree_laws.specs.DataSwitch.{AreSpelled, shape_text};
 ghost use Rattle.tree_laws.specs.MidEdit.{Puts};
 
@@ -92,6 +93,8 @@ pub(crate) fn write_shape<S: Space>(
         (34 + length (dims_of shape.now) * dimension_digits wide)
         (shape_text wide shape.now.kind (dims_of shape.now)))
         (S.image space.old) (S.image space.new)) }
+    ensures only { WaitsWithin (range place (node_length wide) ∷ []) (S.waiting space.old)
+        (S.waiting space.new) }
     ensures writes { AnswersWrite S.is_sound S.state S.waiting 2 (ReadsFew 2) (IsRefusal ⊥)
         space.old space.new result }
 {
@@ -114,6 +117,8 @@ pub(crate) fn write_chunks<S: Space>(
         (hex_text 4 at.count ++ pointer_text (view at.pointer)))
         (S.image space.old) (S.image space.new)) }
     ensures few { at.count < 16 ^ 4 }
+    ensures only { WaitsWithin (range place (node_length wide) ∷ []) (S.waiting space.old)
+        (S.waiting space.new) }
     ensures writes { AnswersWrite S.is_sound S.state S.waiting 2 (ReadsFew 2) (IsRefusal ⊥)
         space.old space.new result }
 {

@@ -15,7 +15,7 @@ ghost use Rattle.strided.specs.RunLists.{spread};
 ghost use Rattle.adf_data.specs.Runs.{EndsIn};
 ghost use Rattle.tree_asks.specs.Headers.{dims_of};
 ghost use Rattle.tree_edits.specs.Taken.{KeepsHeap, IsRoomless};
-ghost use Rattle.data_edits.specs.Becomes.{BecomeBy, NoneOwned, Owned, spot_after};
+ghost use Rattle.data_edits.specs.Becomes.{BecomeBy, NoneOwned, Owned, WaitBy, spot_after};
 ghost use Rattle.data_edits.specs.Puts.{KeepsLength, LacksData, put_cost, put_on};
 
 use adf_data::{DataPlace, put_part, put_whole, write_runs};
@@ -65,6 +65,8 @@ fn write_over<S: Space>(
         heap.now.work) (S.image space.old) (S.image space.new)) }
     ensures offset { IfOk result (λ now. HasOffset now.pointer) }
     ensures effect { OnlyReads (S.state space.old) (S.state space.new) }
+    ensures only { OnOk result (WaitBy header.now heap.now.work.heap heap.now.work.heap
+        (S.image space.old) (S.waiting space.old) (S.waiting space.new)) }
     ensures waits { how_many (S.waiting space.new)
         ≤ how_many (S.waiting space.old) + (size / 4096 + 2 * header.now.chunks) }
     ensures cause { IfErr result (IsRefusal
@@ -108,6 +110,8 @@ pub(crate) fn place_whole<S: Space>(
         → spot_after heap.old.limit (Some bytes.now) (parts, heap.old.work.heap)
         ≡ Err (record { asked = asked; end = end }) }
     ensures effect { OnlyReads (S.state space.old) (S.state space.new) }
+    ensures only { OnOk result (WaitBy header.now heap.old.work.heap heap.new.work.heap
+        (S.image space.old) (S.waiting space.old) (S.waiting space.new)) }
     ensures waits { OnOk result (how_many (S.waiting space.new) + 2
         ≤ how_many (S.waiting space.old) + put_cost header.now) }
     ensures cause { IfErr result (IsRoomless
@@ -160,6 +164,8 @@ pub(crate) fn place_part<S: Space>(
         → spot_after heap.old.limit (put_on size element (spread runs.now) bytes.now was)
         (parts, heap.old.work.heap) ≡ Err (record { asked = asked; end = end }) }
     ensures effect { OnlyReads (S.state space.old) (S.state space.new) }
+    ensures only { OnOk result (WaitBy header.now heap.old.work.heap heap.new.work.heap
+        (S.image space.old) (S.waiting space.old) (S.waiting space.new)) }
     ensures waits { OnOk result (how_many (S.waiting space.new) + 2
         ≤ how_many (S.waiting space.old) + put_cost header.now) }
     ensures cause { IfErr result (IsRoomless

@@ -16,6 +16,7 @@ ghost use Rattle.strided.specs.RunLists.{spread};
 ghost use Rattle.tree_asks.specs.Headers.{dims_of, data_shape_of};
 ghost use Rattle.tree_edits.specs.Rows.{AreNear, Means};
 ghost use Rattle.tree_edits.specs.Edits.{Does, Refuses, KeepsCore, memory_of};
+ghost use Rattle.tree_edits.specs.Waiting.{Reaches};
 ghost use Rattle.data_edits.specs.Found.{WaitsAtMost};
 ghost use Rattle.data_edits.specs.Puts.{IsDataRefusal, IsDataCause, IsPutCause, MayPut, MayPutData, Part, RefusesPuts, WaitsToPut};
 
@@ -134,6 +135,9 @@ pub fn put_all<S: Space>(
         (λ bytes. (tree : Tree) × (p : Placement) × Means bytes tree p (memory_of core.old)) }
     ensures done { OnOk result (Both (Does (Edit.PutAll node bytes.now) core.old core.new)
         (S.image space.old) (S.image space.new)) }
+    ensures reached { OnOk result (IfSome (S.image space.old) (Reaches
+        (Edit.PutAll node bytes.now) core.old core.new (S.waiting space.old)
+        (S.waiting space.new))) }
     ensures allowed { OnOk result (MayPutData core.old node Part.Whole bytes.now
         (S.image space.old)) }
     ensures refused { IfErr result (λ e. IfSome (S.image space.old)
@@ -181,6 +185,9 @@ pub fn put_part<S: Space>(
         (λ bytes. (tree : Tree) × (p : Placement) × Means bytes tree p (memory_of core.old)) }
     ensures done { OnOk result (Both (Does (Edit.PutPart node selection.now bytes.now)
         core.old core.new) (S.image space.old) (S.image space.new)) }
+    ensures reached { OnOk result (IfSome (S.image space.old) (Reaches
+        (Edit.PutPart node selection.now bytes.now) core.old core.new (S.waiting space.old)
+        (S.waiting space.new))) }
     ensures allowed { OnOk result (MayPutData core.old node (Part.Chosen selection.now) bytes.now
         (S.image space.old)) }
     ensures refused { IfErr result (λ e. IfSome (S.image space.old)

@@ -16,7 +16,8 @@ ghost use Rattle.tree_asks.specs.Headers.{dims_of};
 ghost use Rattle.tree_edits.specs.Rows.{AreNear, Means};
 ghost use Rattle.tree_edits.specs.Edits.{Does, Refuses, KeepsCore, memory_of};
 ghost use Rattle.tree_edits.specs.Taken.{KeepsHeap, IsRoomless};
-ghost use Rattle.data_edits.specs.Becomes.{BecomeBy, NoneOwned, Owned, spot_after};
+ghost use Rattle.tree_edits.specs.Waiting.{Reaches};
+ghost use Rattle.data_edits.specs.Becomes.{BecomeBy, NoneOwned, Owned, WaitBy, spot_after};
 ghost use Rattle.data_edits.specs.Found.{WaitsAtMost};
 ghost use Rattle.data_edits.specs.Shaped.{IsShapeRefusal, IsShapeCause, LacksSize, MaySetDims, is_good, is_too_large, keeps, reshaped, shape_cost, size_of_shape, WaitsForShape};
 ghost use Rattle.adf_model.specs.declared.tree.Shape.{Shape};
@@ -121,6 +122,8 @@ fn release_data<S: Space>(
     ensures offset { IfOk result (λ now. HasOffset now.pointer) }
     ensures kept { KeepsHeap heap.old heap.new }
     ensures effect { OnlyReads (S.state space.old) (S.state space.new) }
+    ensures only { OnOk result (WaitBy header.now heap.old.work.heap heap.new.work.heap
+        (S.image space.old) (S.waiting space.old) (S.waiting space.new)) }
     ensures waits { how_many (S.waiting space.new)
         ≤ how_many (S.waiting space.old) + 12 * (header.now.chunks + 1) }
     ensures cause { IfErr result (IsRefusal
@@ -166,6 +169,8 @@ fn resize_data<S: Space>(
         → spot_after heap.old.limit (reshaped header.now shape.now bytes)
         (parts, heap.old.work.heap) ≡ Err (record { asked = asked; end = end }) }
     ensures effect { OnlyReads (S.state space.old) (S.state space.new) }
+    ensures only { OnOk result (WaitBy header.now heap.old.work.heap heap.new.work.heap
+        (S.image space.old) (S.waiting space.old) (S.waiting space.new)) }
     ensures waits { OnOk result (how_many (S.waiting space.new) + 4
         ≤ how_many (S.waiting space.old) + shape_cost header.now shape.now) }
     ensures cause { IfErr result (IsRoomless
@@ -217,6 +222,8 @@ fn reshape<S: Space>(
         → spot_after heap.old.limit (reshaped found.now.header shape.now bytes)
         (parts, heap.old.work.heap) ≡ Err (record { asked = asked; end = end }) }
     ensures effect { OnlyReads (S.state space.old) (S.state space.new) }
+    ensures only { OnOk result (WaitBy found.now.header heap.old.work.heap heap.new.work.heap
+        (S.image space.old) (S.waiting space.old) (S.waiting space.new)) }
     ensures waits { OnOk result (how_many (S.waiting space.new) + 4
         ≤ how_many (S.waiting space.old) + shape_cost found.now.header shape.now) }
     ensures cause { IfErr result (IsRoomless
@@ -252,6 +259,9 @@ pub fn set_dims<S: Space>(
         (λ bytes. (tree : Tree) × (p : Placement) × Means bytes tree p (memory_of core.old)) }
     ensures done { OnOk result (Both (Does (Edit.SetDims node shape.now) core.old core.new)
         (S.image space.old) (S.image space.new)) }
+    ensures reached { OnOk result (IfSome (S.image space.old) (Reaches
+        (Edit.SetDims node shape.now) core.old core.new (S.waiting space.old)
+        (S.waiting space.new))) }
     ensures allowed { OnOk result (MaySetDims core.old node shape.now (S.image space.old)) }
     ensures refused { IfErr result (λ e. IfSome (S.image space.old)
         (Refuses (Edit.SetDims node shape.now) core.old e)) }

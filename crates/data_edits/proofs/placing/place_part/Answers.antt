@@ -8,6 +8,7 @@ use Rattle.data_edits.specs.Puts.{LacksData, put_on}
 use Rattle.data_edits.proofs.NewData.{new_become, new_full, new_pays, lacks_chunk, untold_none, takes_room, over_pays}
 use Rattle.data_edits.proofs.Reshaping.{asks_no_room, never_full}
 use Rattle.data_edits.proofs.ShapeDone.{where_ok}
+use Rattle.data_edits.proofs.DataWaits.{new_wait}
 use Rattle.data_edits.proofs.placing.place_part.Goals as goal
 
 pub returns-then-header-eq0-clause-becomes : goal.returns-then-header-eq0-clause-becomes
@@ -41,3 +42,7 @@ returns-clause-waits g c = where_ok c.write_over.result _ (over_pays c.args.head
 
 pub returns-clause-cause : goal.returns-clause-cause
 returns-clause-cause g c = asks_no_room (LacksData c.args.heap.now.limit c.args.header.now c.args.heap.now.work.heap) _ c.write_over.result _ _ c.write_over.ensures.cause
+
+pub returns-then-header-eq0-clause-only : goal.returns-then-header-eq0-clause-only
+returns-then-header-eq0-clause-only g c =
+    where_ok c.put_part.result _ (new_wait c.args.header.now c.args.heap.now.work.heap c.put_part.new.heap.work.heap (g.S.ReadBytes.image c.args.space.now) _ _ c.put_part.ensures.only)

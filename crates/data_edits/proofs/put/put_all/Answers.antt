@@ -9,6 +9,8 @@ use Rattle.data_edits.proofs.Costs.{put_at_most}
 use Rattle.data_edits.proofs.ShapeDone.{moved_both, where_ok, all_refused}
 use Rattle.data_edits.proofs.PutDone.{one_put, data_is_cause, refused_length, length_cause, refused_put, put_cause, refused_write, write_cause, done, moved_put, moved_exact}
 use Rattle.data_edits.proofs.PutFacts.{size_is, some_is, all_fills, all_change}
+use Rattle.adf_model.specs.declared.tree.Edit.{Edit}
+use Rattle.data_edits.proofs.DataWaits.{data_reached, moved_wait}
 use Rattle.data_edits.proofs.put.put_all.Goals as goal
 
 pub returns-in-Err-clause-refused : goal.returns-in-Err-clause-refused
@@ -96,3 +98,15 @@ returns-clause-costs g c =
 pub returns-clause-cause : goal.returns-clause-cause
 returns-clause-cause g c =
     all_refused c.write_chunks.result _ _ (λ e x. write_cause c.args.core.now c.args.node Part.Whole c.args.bytes.now c.in-Ok.data.found.row c.in-Ok.data.found.header (g.S.ReadBytes.image c.args.space.now) (all_fills c.args.core.now c.args.node c.args.bytes.now (g.S.ReadBytes.image c.args.space.now) c.in-Ok.data.found.row c.in-Ok.data.found.header (c.in-Ok-check_length.ensures.same ∙ (size_is c.in-Ok.data.found.header c.in-Ok.data.shape c.in-Ok.ensures.shape c.in-Ok.ensures.may.small c.size.result c.size.ensures)) c.in-Ok.ensures.may) _ _ _ e (only_then _ _ _ (few_only 2 _ _ c.in-Ok.ensures.reads.effect) c.in-Ok-place_whole.ensures.effect).faults x) c.write_chunks.ensures.writes.cause
+
+pub returns-clause-reached : goal.returns-clause-reached
+returns-clause-reached g c =
+    let held = g.S.ReadBytes.image c.args.space.now in
+    let h = c.in-Ok.data.found.header in
+    where_ok c.write_chunks.result _
+    (data_reached c.args.core.now c.args.node c.in-Ok.data.found.row h (Edit.PutAll c.args.node c.args.bytes.now) (λ tree p. refl) (λ was. Some c.args.bytes.now)
+    (record { heap = c.place_whole.new.heap; rows = c.args.core.now.rows; wide = c.args.core.now.wide; writable = c.args.core.now.writable }) c.in-Ok-place_whole.at c.place_whole.new.heap.work refl
+    _ _ _ held (g.S.ReadBytes.image c.place_whole.new.space) c.in-Ok.ensures.may.may
+    (moved_both _ held (g.S.ReadBytes.image c.find_data.new.bytes) (g.S.ReadBytes.image c.place_whole.new.space) c.in-Ok.ensures.reads.bytes c.in-Ok-place_whole.ensures.becomes)
+    (moved_wait h c.args.core.now.heap.work.heap c.place_whole.new.heap.work.heap held (g.S.ReadBytes.image c.find_data.new.bytes) _ _ _ c.in-Ok.ensures.reads.bytes c.in-Ok.ensures.reads.waits c.in-Ok-place_whole.ensures.only)
+    c.write_chunks.ensures.only)

@@ -11,6 +11,8 @@ use Rattle.data_edits.proofs.Costs.{put_at_most}
 use Rattle.data_edits.proofs.ShapeDone.{moved_both, where_ok, all_refused}
 use Rattle.data_edits.proofs.PutDone.{one_put, data_is_cause, refused_length, length_cause, refused_put, put_cause, refused_write, write_cause, done, moved_put, moved_exact, refused_runs, runs_cause}
 use Rattle.data_edits.proofs.PutFacts.{size_is, some_is, fit_said, long_said, part_few, part_fills, part_ends, part_keeps, part_change}
+use Rattle.adf_model.specs.declared.tree.Edit.{Edit}
+use Rattle.data_edits.proofs.DataWaits.{data_reached, moved_wait}
 use Rattle.data_edits.proofs.put.put_part.Goals as goal
 
 pub returns-in-Err-clause-refused : goal.returns-in-Err-clause-refused
@@ -126,3 +128,15 @@ returns-clause-costs g c =
 pub returns-clause-cause : goal.returns-clause-cause
 returns-clause-cause g c =
     all_refused c.write_chunks.result _ _ (λ e x. write_cause c.args.core.now c.args.node (Part.Chosen c.args.selection.now) c.args.bytes.now c.in-Ok.data.found.row c.in-Ok.data.found.header (g.S.ReadBytes.image c.args.space.now) (part_fills c.args.core.now c.args.node c.args.selection.now c.args.bytes.now (g.S.ReadBytes.image c.args.space.now) c.in-Ok.data.found.row c.in-Ok.data.found.header c.in-Ok.data.shape c.in-Ok.ensures.shape c.size-size.result (size_is c.in-Ok.data.found.header c.in-Ok.data.shape c.in-Ok.ensures.shape c.in-Ok.ensures.may.small c.size-size.result c.size-size.ensures) c.element_size-element.result c.element_size-element.ensures c.in-Ok-runs.runs c.in-Ok-runs.ensures.elements (found_fits (Ok c.in-Ok-runs.runs) c.in-Ok-runs.runs _ c.in-Ok-runs.ensures.range refl) (c.in-Ok-check_length.ensures.same ∙ (c.bytes_in.ensures ∙ ap (λ rs. c.element_size-element.result * length (spread rs)) c.items.ensures)) c.in-Ok.ensures.may) _ _ _ e (only_then _ _ _ (few_only 2 _ _ c.in-Ok.ensures.reads.effect) c.in-Ok-place_part.ensures.effect).faults x) c.write_chunks.ensures.writes.cause
+
+pub returns-clause-reached : goal.returns-clause-reached
+returns-clause-reached g c =
+    let held = g.S.ReadBytes.image c.args.space.now in
+    let h = c.in-Ok.data.found.header in
+    where_ok c.write_chunks.result _
+    (data_reached c.args.core.now c.args.node c.in-Ok.data.found.row h (Edit.PutPart c.args.node c.args.selection.now c.args.bytes.now) (λ tree p. refl) (put_on c.size-size.result c.element_size-element.result (spread c.in-Ok-runs.runs) c.args.bytes.now)
+    (record { heap = c.place_part.new.heap; rows = c.args.core.now.rows; wide = c.args.core.now.wide; writable = c.args.core.now.writable }) c.in-Ok-place_part.at c.place_part.new.heap.work refl
+    _ _ _ held (g.S.ReadBytes.image c.place_part.new.space) c.in-Ok.ensures.may.may
+    (moved_both _ held (g.S.ReadBytes.image c.find_data.new.bytes) (g.S.ReadBytes.image c.place_part.new.space) c.in-Ok.ensures.reads.bytes c.in-Ok-place_part.ensures.becomes)
+    (moved_wait h c.args.core.now.heap.work.heap c.place_part.new.heap.work.heap held (g.S.ReadBytes.image c.find_data.new.bytes) _ _ _ c.in-Ok.ensures.reads.bytes c.in-Ok.ensures.reads.waits c.in-Ok-place_part.ensures.only)
+    c.write_chunks.ensures.only)

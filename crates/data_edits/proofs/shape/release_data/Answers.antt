@@ -1,5 +1,6 @@
 use Rattle.cg_io.proofs.ReadLaws.{refused_for}
 use Rattle.data_edits.proofs.Reshaping.{released_become, released_none}
+use Rattle.data_edits.proofs.DataWaits.{given_wait}
 use Rattle.data_edits.proofs.shape.release_data.Goals as goal
 
 pub returns-in-Ok-clause-becomes : goal.returns-in-Ok-clause-becomes
@@ -9,3 +10,6 @@ returns-in-Ok-clause-becomes g c = λ shape gone.
 
 pub returns-in-Err-clause-cause : goal.returns-in-Err-clause-cause
 returns-in-Err-clause-cause g c = refused_for _ _ _ _ c.in-Err.error (released_none c.args.header.now (g.S.ReadBytes.image c.args.space.now) c.args.heap.now.work.heap) c.in-Err.ensures.cause
+
+pub returns-in-Ok-clause-only : goal.returns-in-Ok-clause-only
+returns-in-Ok-clause-only g c = given_wait c.args.header.now c.args.heap.now.work.heap c.release.new.heap.work.heap (g.S.ReadBytes.image c.args.space.now) _ _ c.release.ensures.only

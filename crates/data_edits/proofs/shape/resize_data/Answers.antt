@@ -7,6 +7,7 @@ use Rattle.data_edits.specs.Becomes.{NoneOwned, place_in}
 use Rattle.data_edits.specs.Shaped.{LacksSize}
 use Rattle.data_edits.proofs.Costs.{growth_pays}
 use Rattle.data_edits.proofs.Reshaping.{fewer_become, lacks_size, least_size, most_size, resized_become, resized_full, resized_none, roomless, size_told}
+use Rattle.data_edits.proofs.DataWaits.{stay_wait}
 use Rattle.data_edits.proofs.shape.resize_data.Goals as goal
 
 pub returns-then-new-old-clause-becomes : goal.returns-then-new-old-clause-becomes
@@ -50,3 +51,9 @@ returns-in-Err-clause-cause g c =
     (most_size _ c.size_in-old.result c.size-new.result c.size_in-old.ensures c.if-new-old.false) (g.S.ReadBytes.image c.args.space.now) c.args.heap.now.work.heap)
     (λ asked end is. lacks_size c.args.heap.now.limit c.args.header.now c.args.shape.now c.args.heap.now.work.heap c.size-new.result asked end c.requires.stay e (c.in-Err.ensures.full asked end (sym c.in-Err.is ∙ is)))
     c.in-Err.ensures.cause
+
+pub returns-then-new-old-clause-only : goal.returns-then-new-old-clause-only
+returns-then-new-old-clause-only g c = stay_wait c.args.header.now c.args.heap.now.work.heap c.args.heap.now.work.heap (g.S.ReadBytes.image c.args.space.now) _
+
+pub returns-in-Ok-clause-only : goal.returns-in-Ok-clause-only
+returns-in-Ok-clause-only g c = c.resize.ensures.only

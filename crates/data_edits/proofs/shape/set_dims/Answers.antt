@@ -8,6 +8,9 @@ use Rattle.cg_io.specs.Waits.{how_many}
 use Rattle.data_edits.proofs.Costs.{shape_at_most}
 use Rattle.data_edits.proofs.Shapes.{few_rank, few_dims, good_dims}
 use Rattle.data_edits.proofs.ShapeDone.{of_node, refused_shape, shape_cause, reshape_cause, refused_reshape, write_cause, refused_write, done, may_reshape, moved_cause, moved_exact, moved_both, where_ok, all_refused}
+use Rattle.field_access.proofs.WaitLaws.{waits_then}
+use Rattle.data_edits.specs.Shaped.{reshaped}
+use Rattle.data_edits.proofs.DataWaits.{data_reached, moved_wait}
 use Rattle.data_edits.proofs.shape.set_dims.Goals as goal
 
 pub returns-in-Err-clause-refused : goal.returns-in-Err-clause-refused
@@ -114,3 +117,15 @@ returns-clause-costs g c =
     where_ok c.write_chunks.result _
     (shape_at_most c.args.core.now c.args.node c.args.shape.now c.in-Ok.found.row c.in-Ok.found.header (g.S.ReadBytes.image c.args.space.now) may _ _
     (omega (arith, ap how_many c.in-Ok.ensures.reads.waits, c.in-Ok-reshape.ensures.waits, c.in-Ok-write_shape.ensures.writes.waits, c.write_chunks.ensures.writes.waits)))
+
+pub returns-clause-reached : goal.returns-clause-reached
+returns-clause-reached g c =
+    let held = g.S.ReadBytes.image c.args.space.now in
+    let h = c.in-Ok.found.header in
+    where_ok c.write_chunks.result _
+    (data_reached c.args.core.now c.args.node c.in-Ok.found.row h (Edit.SetDims c.args.node c.args.shape.now) (λ tree p. refl) (reshaped h c.args.shape.now)
+    (record { heap = c.reshape.new.heap; rows = c.args.core.now.rows; wide = c.args.core.now.wide; writable = c.args.core.now.writable }) c.in-Ok-reshape.at c.reshape.new.heap.work refl
+    _ _ _ held (g.S.ReadBytes.image c.reshape.new.space) c.in-Ok.ensures.may
+    (moved_both _ held (g.S.ReadBytes.image c.find_node.new.bytes) (g.S.ReadBytes.image c.reshape.new.space) c.in-Ok.ensures.reads.bytes c.in-Ok-reshape.ensures.becomes)
+    (moved_wait h c.args.core.now.heap.work.heap c.reshape.new.heap.work.heap held (g.S.ReadBytes.image c.find_node.new.bytes) _ _ _ c.in-Ok.ensures.reads.bytes c.in-Ok.ensures.reads.waits c.in-Ok-reshape.ensures.only)
+    (waits_then _ _ _ _ c.in-Ok-write_shape.ensures.only c.write_chunks.ensures.only))
