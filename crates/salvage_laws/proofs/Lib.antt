@@ -1,2 +1,4 @@
 pub mod SurveyLaws
 pub mod SurveyOrder
+pub mod SurveyTree
+pub mod SurveyNodes

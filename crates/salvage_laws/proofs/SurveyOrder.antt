@@ -1,7 +1,7 @@
 -- The nodes that a survey keeps stand in tree order; so the names on the way to a child are those on the way to its parent, and its own.
 use Rattle.std.proofs.Common.{◌≡◌, ◌⊎◌, inl, inr, ℕ, zero, suc, refl, sym, ◌∙◌, ap, subst, arith, List, [], ◌∷◌, ◌++◌, map, ◌+◌, ◌<◌, ◌≤◌, Bool, true, false, cond, append_assoc, append-nil}
 use Rattle.std.proofs.lemmas.Bool.Decides.{nat_tests, eqb_tells}
-use Rattle.std.specs.Prelude.{Option, Some, None, slice_get, ◌==◌, ◌&&◌, ⊤}
+use Rattle.std.specs.Prelude.{Some, None, slice_get, ◌==◌, ◌&&◌}
 use Rattle.std.specs.List.{AllByRecursion, range_with_len, flat_map}
 use Rattle.adf_format.specs.Checks.{Row, Fault, Survey, surveyed, omits, keeps}
 use Rattle.adf_format.specs.FirstFault.{Visit, child_visits, children_in}

@@ -1,9 +1,11 @@
 -- The survey of the nodes of a damaged file, step by step, with a stack of those that wait.
-use Rattle.std.specs.Prelude.{ℕ, ◌+◌, List, [], ◌∷◌, map, reverse, None}
+use Rattle.std.specs.Prelude.{◌≡◌, ℕ, ◌+◌, List, [], ◌∷◌, length, map, reverse, slice_get, None, Some}
 use Rattle.adf_format.specs.Checks.{Row, Fault, Survey}
 use Rattle.adf_format.specs.FirstFault.{Visit, child_visits, visit_rows, root_visit, is_wide}
 use Rattle.adf_format.specs.SoundPart.{last_byte}
 use Rattle.adf_format.specs.Tiles.{total_length}
+use Rattle.adf_format.specs.Verdict.{NodePlace}
+use Rattle.layout_laws.specs.FoundLayout.{NamesVisit}
 use Rattle.layout_laws.specs.NodePass.{Waiting, AreMet, is_known, met_extents, node_rows_at}
 
 -- the nodes that are kept, and those that are left out with the first rule that each breaks
@@ -35,3 +37,8 @@ pub record IsSurveying (image : List ℕ) (stack kept out : List Waiting) (left 
   pub found : AreMet seen kept seen
   pub leaves : AreMet seen out (visits_of left)
   pub goes_on : (outcome : Outcome) → Survey (visit_rows image (is_wide image) (last_byte image)) (child_visits image) next seen left outcome → NodeSurvey image outcome
+
+-- The places of some nodes name their visits one by one.
+pub record NameVisits (visits : List Visit) (nodes : List NodePlace) : Type 0 where
+  pub count : length nodes ≡ length visits
+  pub each : (k : ℕ) (v : Visit) (n : NodePlace) → slice_get visits k ≡ Some v → slice_get nodes k ≡ Some n → NamesVisit visits v n

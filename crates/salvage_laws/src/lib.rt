@@ -2,10 +2,11 @@
 
 #![tactic(auto)]
 
-ghost use Rattle.std.specs.Prelude.{◌≡◌, ℕ, ◌+◌, List, [], ◌∷◌, ◌++◌, length, reverse, slice_get, Some, None};
+ghost use Rattle.std.specs.Prelude.{◌≡◌, ℕ, ◌+◌, ◌<◌, List, [], ◌∷◌, ◌++◌, length, reverse, slice_get, Some, None};
 ghost use Rattle.adf_format.specs.Checks.{Fault, first_broken};
 ghost use Rattle.adf_format.specs.FirstFault.{Visit, children_in, table_in};
-ghost use Rattle.adf_format.specs.SoundPart.{names_to, entry_names};
+ghost use Rattle.adf_format.specs.SoundPart.{IsSoundPart, names_to, entry_names, tree_of};
+ghost use Rattle.adf_format.specs.Tree.{IsTree};
 ghost use Rattle.layout_laws.specs.NodePass.{Waiting, AreMet, waiting_children};
 ghost use Rattle.salvage_laws.specs.Surveys.{IsSurveying, NodeSurvey, rows_of, waiting_root, visits_of};
 
@@ -39,4 +40,10 @@ pub fn names_lead()
         → names_to kept child ≡ names_to kept parent ++ entry_names child.entry }
     ensures root { (kept : List Visit) (v : Visit) → v.path ≡ [] → v.entry ≡ None
         → names_to kept v ≡ [] }
+{}
+
+/// The nodes that are kept of a damaged file, unless the root is left out, make a tree.
+pub fn kept_nodes_make_a_tree()
+    ensures { (image : List ℕ) (kept : List Visit) (left : List (Visit × Fault))
+        → IsSoundPart image kept left → 0 < length kept → IsTree (tree_of image kept) }
 {}
