@@ -19,6 +19,7 @@ use Rattle.tree_edits.specs.Edits.{Does, KeepsCore, Refuses}
 use Rattle.tree_edits.specs.Rows.{AreNear}
 use Rattle.tree_edits.specs.declared.memory.Core.{Core}
 use Rattle.tree_edits.specs.declared.rows.Row.{Row}
+use Rattle.tree_edits.specs.Waiting.{Reaches}
 use Rattle.adf_tree.proofs.HeaderRules.{header_rule}
 use Rattle.adf_tree.specs.Steps.{EditAnswers, IsStepCause, IsWithinCost, drawn_by}
 
@@ -78,8 +79,9 @@ module _ {S : Type 0} (is_sound : S → Type 0) (image : S → Option (List ℕ)
   where
     -- of an edit that draws no serial
     pub contents_done : None ≡ drawn_by edit (length core.rows.items) → Both (Does edit core after) (image old) (image new) → core.writable ≡ true
-        → IfSome (image old) (IsWithinCost edit core (waiting old) (waiting new)) → EditAnswers is_sound image state waiting edit core after old new (Ok None)
-    contents_done none does allowed cost = record {
+        → IfSome (image old) (IsWithinCost edit core (waiting old) (waiting new)) → IfSome (image old) (Reaches edit core after (waiting old) (waiting new))
+        → EditAnswers is_sound image state waiting edit core after old new (Ok None)
+    contents_done none does allowed cost reaches = record {
       sound = sound;
       done = does;
       serial = none;
@@ -89,6 +91,7 @@ module _ {S : Type 0} (is_sound : S → Type 0) (image : S → Option (List ℕ)
       near = near;
       effect = effect;
       cost = cost;
+      reached = reaches;
       cause = tt;
     }
 
@@ -104,5 +107,6 @@ module _ {S : Type 0} (is_sound : S → Type 0) (image : S → Option (List ℕ)
       near = near;
       effect = effect;
       cost = tt;
+      reached = tt;
       cause = cause;
     }

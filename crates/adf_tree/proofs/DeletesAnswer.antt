@@ -29,6 +29,7 @@ use Rattle.tree_edits.specs.Left.{entry_place, leave_cost, length_behind}
 use Rattle.tree_edits.specs.Rows.{AreNear, Means}
 use Rattle.tree_edits.specs.declared.listed.Listed.{Listed}
 use Rattle.tree_edits.specs.declared.memory.Core.{Core}
+use Rattle.tree_edits.specs.Waiting.{Reaches}
 use Rattle.tree_laws.proofs.Groups.Pays.{edit_pays}
 use Rattle.tree_laws.specs.Pays.{edit_blocks, leave_blocks, of_gifts}
 use Rattle.adf_tree.proofs.EditsAnswer.{same_core, unlisted_rule}
@@ -98,6 +99,7 @@ module _ {S : Type 0} (is_sound : S → Type 0) (image : S → Option (List ℕ)
     near = near;
     effect = only_none (state old);
     cost = tt;
+    reached = tt;
     cause = tt;
   })
     where
@@ -106,10 +108,10 @@ module _ {S : Type 0} (is_sound : S → Type 0) (image : S → Option (List ℕ)
       free (Some bytes) = λ tree p m. tt
 
   module _ (core after : Core) (node : NodeId) (old new : S) (kept : KeepsCore core after) (near : AreNear after.wide after.rows.items) where
-    pub delete_done : Both (Does (Delete node) core after) (image old) (image new) → MayDelete core node (image old)
+    pub delete_done : Both (Does (Delete node) core after) (image old) (image new) → IfSome (image old) (Reaches (Delete node) core after (waiting old) (waiting new)) → MayDelete core node (image old)
         → ((n : ℕ) × DeletesWithin core node (image old) n × AnswersWrite {T = Unit {0}} is_sound state waiting n OnlyReads (IsDeleteCause core node (image old)) old new (Ok tt))
         → EditAnswers is_sound image state waiting (Delete node) core after old new (Ok None)
-    delete_done does may w = record {
+    delete_done does reaches may w = record {
       sound = w.2.sound;
       done = does;
       serial = refl;
@@ -119,6 +121,7 @@ module _ {S : Type 0} (is_sound : S → Type 0) (image : S → Option (List ℕ)
       near = near;
       effect = w.2.effect;
       cost = delete_within core node (waiting old) (waiting new) w.0 w.2.waits (image old) w.1;
+      reached = reaches;
       cause = tt;
     }
 
@@ -135,5 +138,6 @@ module _ {S : Type 0} (is_sound : S → Type 0) (image : S → Option (List ℕ)
       near = near;
       effect = w.2.effect;
       cost = tt;
+      reached = tt;
       cause = delete_cause core node (image old) (state old).faults (state new).faults e w.2.cause;
     }

@@ -38,6 +38,7 @@ use Rattle.tree_edits.specs.Linkable.{IsLinkable, IsLinkCause, LinksWithin}
 use Rattle.tree_edits.specs.Listed.{TableBreaks, IsUnlisted, ReadsTable}
 use Rattle.tree_edits.specs.Names.{IsNameCause, IsTableAbove, MayRename}
 use Rattle.tree_edits.specs.Rows.{AreNear, Means, IsRowOf}
+use Rattle.tree_edits.specs.Waiting.{Reaches}
 use Rattle.tree_edits.proofs.Kids.{count_is, kids_are}
 use Rattle.cg_io.proofs.ReadLaws.{few_only, only_none}
 use Rattle.adf_tree.proofs.HeaderRules.{header_rule}
@@ -171,13 +172,14 @@ module _ {S : Type 0} (is_sound : S → Type 0) (image : S → Option (List ℕ)
     near = near;
     effect = only_none (state old);
     cost = tt;
+    reached = tt;
     cause = (refl, refl);
   }
 
-  pub label_done : Both (Does (SetLabel node label) core core) (image old) (image new) → MaySetLabel core node label (image old)
+  pub label_done : Both (Does (SetLabel node label) core core) (image old) (image new) → IfSome (image old) (Reaches (SetLabel node label) core core (waiting old) (waiting new)) → MaySetLabel core node label (image old)
       → AnswersWrite {T = Unit {0}} is_sound state waiting 2 (ReadsFew 4) (IsLabelCause core node label (image old)) old new (Ok tt)
       → EditAnswers is_sound image state waiting (SetLabel node label) core core old new (Ok None)
-  label_done does may writes = record {
+  label_done does reaches may writes = record {
     sound = writes.sound;
     done = does;
     serial = refl;
@@ -187,6 +189,7 @@ module _ {S : Type 0} (is_sound : S → Type 0) (image : S → Option (List ℕ)
     near = near;
     effect = few_only 4 (state old) (state new) writes.effect;
     cost = pays (SetLabel node label) core (waiting old) (waiting new) 2 (image old) writes.waits (λ tree chunks. omega arith);
+    reached = reaches;
     cause = tt;
   }
 
@@ -203,6 +206,7 @@ module _ {S : Type 0} (is_sound : S → Type 0) (image : S → Option (List ℕ)
     near = near;
     effect = few_only 4 (state old) (state new) writes.effect;
     cost = tt;
+    reached = tt;
     cause = label_cause core node label (image old) (state old).faults (state new).faults e there writes.cause;
   }
 
@@ -213,10 +217,10 @@ module _ {S : Type 0} (is_sound : S → Type 0) (image : S → Option (List ℕ)
   writable_of : MayRename core node name (image old) → core.writable ≡ true
   writable_of may = may.may.allowed
 
-  pub name_done : Both (Does (Rename node name) core core) (image old) (image new) → MayRename core node name (image old)
+  pub name_done : Both (Does (Rename node name) core core) (image old) (image new) → IfSome (image old) (Reaches (Rename node name) core core (waiting old) (waiting new)) → MayRename core node name (image old)
       → AnswersWrite {T = Unit {0}} is_sound state waiting 4 effects (IsNameCause core node name (image old)) old new (Ok tt)
       → EditAnswers is_sound image state waiting (Rename node name) core core old new (Ok None)
-  name_done does may writes = record {
+  name_done does reaches may writes = record {
     sound = writes.sound;
     done = does;
     serial = refl;
@@ -226,6 +230,7 @@ module _ {S : Type 0} (is_sound : S → Type 0) (image : S → Option (List ℕ)
     near = near;
     effect = table_reads (IsTableAbove core node (image old)) 2 6 (state old) (state new) writes.effect;
     cost = pays (Rename node name) core (waiting old) (waiting new) 4 (image old) writes.waits (λ tree chunks. omega arith);
+    reached = reaches;
     cause = tt;
   }
 
@@ -242,6 +247,7 @@ module _ {S : Type 0} (is_sound : S → Type 0) (image : S → Option (List ℕ)
     near = near;
     effect = table_reads (IsTableAbove core node (image old)) 2 6 (state old) (state new) writes.effect;
     cost = tt;
+    reached = tt;
     cause = name_cause core node name (image old) (state old).faults (state new).faults e writes.cause;
   }
 
@@ -275,10 +281,10 @@ module _ (core : Core) (at : NodeId) (name label : List ℕ) (before now : List 
 module _ {S : Type 0} (is_sound : S → Type 0) (image : S → Option (List ℕ)) (state : S → DeviceState) (waiting : S → List ℕ) (core after : Core) (at : NodeId) (name label : List ℕ) (old new : S)
     (kept : KeepsCore core after) (near : AreNear after.wide after.rows.items)
   where
-    pub create_done : (serial : ℕ) → Both (Does (Create at name label) core after) (image old) (image new) → serial ≡ length core.rows.items → IsCreatable core at name label (image old)
+    pub create_done : (serial : ℕ) → Both (Does (Create at name label) core after) (image old) (image new) → IfSome (image old) (Reaches (Create at name label) core after (waiting old) (waiting new)) → serial ≡ length core.rows.items → IsCreatable core at name label (image old)
         → ((n : ℕ) × CreatesWithin core at (image old) n × AnswersWrite {T = ℕ} is_sound state waiting n OnlyReads (IsCreateCause core at name label (image old)) old new (Ok serial))
         → EditAnswers is_sound image state waiting (Create at name label) core after old new (Ok (Some serial))
-    create_done serial does drawn may w = record {
+    create_done serial does reaches drawn may w = record {
       sound = w.2.sound;
       done = does;
       serial = ap (λ (n : ℕ). Some n) drawn;
@@ -288,6 +294,7 @@ module _ {S : Type 0} (is_sound : S → Type 0) (image : S → Option (List ℕ)
       near = near;
       effect = w.2.effect;
       cost = create_within core at name label (waiting old) (waiting new) w.0 w.2.waits (image old) w.1;
+      reached = reaches;
       cause = tt;
     }
 
@@ -304,6 +311,7 @@ module _ {S : Type 0} (is_sound : S → Type 0) (image : S → Option (List ℕ)
       near = near;
       effect = w.2.effect;
       cost = tt;
+      reached = tt;
       cause = create_cause core at name label (image old) (state old).faults (state new).faults e w.2.cause;
     }
 
@@ -338,10 +346,10 @@ module _ (core : Core) (at : NodeId) (name file path : List ℕ) (before now : L
 module _ {S : Type 0} (is_sound : S → Type 0) (image : S → Option (List ℕ)) (state : S → DeviceState) (waiting : S → List ℕ) (core after : Core) (at : NodeId) (name file path : List ℕ) (old new : S)
     (kept : KeepsCore core after) (near : AreNear after.wide after.rows.items)
   where
-    pub link_done : (serial : ℕ) → Both (Does (Link at name file path) core after) (image old) (image new) → serial ≡ length core.rows.items → IsLinkable core at name file path (image old)
+    pub link_done : (serial : ℕ) → Both (Does (Link at name file path) core after) (image old) (image new) → IfSome (image old) (Reaches (Link at name file path) core after (waiting old) (waiting new)) → serial ≡ length core.rows.items → IsLinkable core at name file path (image old)
         → ((n : ℕ) × LinksWithin core at (image old) n × AnswersWrite {T = ℕ} is_sound state waiting n OnlyReads (IsLinkCause core at name file path (image old)) old new (Ok serial))
         → EditAnswers is_sound image state waiting (Link at name file path) core after old new (Ok (Some serial))
-    link_done serial does drawn may w = record {
+    link_done serial does reaches drawn may w = record {
       sound = w.2.sound;
       done = does;
       serial = ap (λ (n : ℕ). Some n) drawn;
@@ -351,6 +359,7 @@ module _ {S : Type 0} (is_sound : S → Type 0) (image : S → Option (List ℕ)
       near = near;
       effect = w.2.effect;
       cost = link_within core at name file path (waiting old) (waiting new) w.0 w.2.waits (image old) w.1;
+      reached = reaches;
       cause = tt;
     }
 
@@ -367,5 +376,6 @@ module _ {S : Type 0} (is_sound : S → Type 0) (image : S → Option (List ℕ)
       near = near;
       effect = w.2.effect;
       cost = tt;
+      reached = tt;
       cause = link_cause core at name file path (image old) (state old).faults (state new).faults e w.2.cause;
     }

@@ -11,7 +11,7 @@ use Rattle.adf_model.specs.Counts.{DeviceState, NoCountFell, OnlyReads, Rose}
 use Rattle.adf_model.specs.Edits.{Work, created_by, file_group, file_step}
 use Rattle.adf_model.specs.FileGroup.{FileGroupAnyway, RefusedAnyway, HasFileCause, IsBrokenGroup, done_by}
 use Rattle.adf_model.specs.Placing.{group_cost, place_group}
-use Rattle.adf_model.specs.Torn.{TornAt}
+use Rattle.adf_model.specs.Torn.{TornGroup}
 use Rattle.adf_model.specs.Slots.{Standing, no_device}
 use Rattle.adf_model.specs.Steps.{IsFileRefusal, OnlyRead}
 use Rattle.adf_model.specs.Untouched.{KeepsRest, KeepsTail}
@@ -31,7 +31,7 @@ use Rattle.tree_edits.specs.declared.memory.Core.{Core}
 use Rattle.tree_edits.specs.Edits.{Does, Refuses, memory_of}
 use Rattle.tree_edits.specs.Rows.{Means}
 use Rattle.cg_io.proofs.ReadLaws.{only_none, only_then}
-use Rattle.adf_tree.specs.Commits.{Commits, Breaks, CommitEnds, undone}
+use Rattle.adf_tree.specs.Commits.{Commits, Breaks, CommitEnds, TearsAll, TearsGroup, undone}
 use Rattle.adf_tree.specs.Files.{FileState, FollowsAll, DoesAll, accepted, device_with}
 use Rattle.adf_tree.specs.Steps.{IsStepCause, Refused, StepEnds, Stepped, undone_over}
 use Rattle.adf_tree.specs.Groups.{GroupAnyway, GroupBreaks, GroupDone, GroupRefused, GroupStops, IsGroupOf, IsOfKind, IsUnderWay, NamesRule, NextEnds, RefusalLeaves, WorkOf, made_by, standing_in}
@@ -80,6 +80,12 @@ counts_then a b c r n = record {
   reads = (let x = r.reads in let y = n.reads in omega (arith, x, y));
   writes = (let x = r.writes in let y = n.writes in omega (arith, x, y));
 }
+
+-- bytes that were told are told afterwards
+both_told : (R : List ℕ → List ℕ → Type 0) (old new : Option (List ℕ)) → Both R old new → IsSome old → IsSome new
+both_told R None new both some = absurd (not_true some)
+both_told R (Some old) None both some = absurd both
+both_told R (Some old) (Some new) both some = refl
 
 take_all : {A : Type 0} (xs : List A) → take (length xs) xs ≡ xs
 take_all [] = refl
@@ -345,33 +351,41 @@ module _ (edits : List Edit) (at : ℕ) (created : List NodeId) (old now : FileS
       broken_counts : NoCountFell old.device new.device
       broken_counts = counts_then old.device now.device new.device u.device b.counts
 
+      -- the bytes that were held are a first part of what the edits were to make
+      tears : (image : List ℕ) → old.device.held ≡ Some image → (tree : Tree) (p : Placement) → Means image tree p (memory_of old.core)
+          → (before after : List ℕ) → old.device.held ≡ Some before → new.device.held ≡ Some after → TearsGroup old.core.heap.limit old.core.writable edits tree p before after
+      tears image told tree p m before after at_before at_after =
+          let both : TearsAll now before after = subst (Both (TearsAll now) (Some before)) at_after (subst (λ (h : Option (List ℕ)). Both (TearsAll now) h new.device.held) (u.device.held ∙ at_before) b.torn) in
+          let means = subst (λ (bytes : List ℕ). Means bytes tree p (memory_of old.core)) (same_Some image before (sym told ∙ at_before)) m in
+          subst (λ (n : ℕ). TearsGroup n old.core.writable edits tree p before after) same_limit
+          (subst (λ (w : Bool). TearsGroup now.core.heap.limit w edits tree p before after) same_writable
+          (subst (λ (es : List Edit). TearsGroup now.core.heap.limit now.core.writable es tree p before after) (u.steps ∙ whole)
+          (both tree p (subst (λ (core : Core). Means before tree p (memory_of core)) (sym u.core) means))))
+
       pub breaks_there : (image : List ℕ) → old.device.held ≡ Some image → (tree : Tree) (p : Placement) → Means image tree p (memory_of old.core) → GroupBreaks edits at tree p old new
       breaks_there image told tree p m =
-          let f = (stands_at image told tree p m).follows in
+          let f = subst (λ (es : List Edit). FollowsAll old.core.heap.limit old.core.writable es now.waiting tree p (memory_of now.core) image (stands_at image told tree p m).shown) whole (stands_at image told tree p m).follows in
+          let before = u.device.faults in
+          let rose = b.failed.faults in
+          let lost_same = u.device.lost in
+          let lost = b.failed.lost in
+          let writes_same = u.device.writes in
+          let writes = b.failed.writes in
           record {
-            all = record { work = f.work; made = subst (λ (es : List Edit). file_group old.core.writable tree es ≡ Ok f.work) whole f.whole.made; placement = f.placement; placed = subst (λ (es : List Edit). place_group old.core.heap.limit tree p (done_by old.core.writable tree es) ≡ Ok f.placement) whole f.whole.placed };
+            all = record { work = f.work; made = f.whole.made; placement = f.placement; placed = f.whole.placed };
             some = some;
             index = all;
+            stands = refl;
+            failed = record { faults = omega (arith, before, rose); lost = omega (arith, lost_same, lost); writes = omega (arith, writes_same, writes) };
             written = record {
               counts = record { faults = broken_counts.faults; lost = broken_counts.lost; reads = broken_counts.reads; writes = broken_counts.writes };
-              cost = (let w = b.writes in let same = u.device.writes in let most = subst (λ (es : List Edit). how_many now.waiting ≤ group_cost old.core.heap.limit tree p (done_by old.core.writable tree es)) whole f.cost in omega (arith, w, same, most));
-              told = λ known. b.told (subst (λ (h : Option (List ℕ)). IsSome h) (sym u.device.held) known);
+              cost = (let w = b.writes in let most = f.cost in omega (arith, w, writes_same, most));
+              told = λ known. both_told (TearsAll now) now.device.held new.device.held b.torn (subst (λ (h : Option (List ℕ)). IsSome h) (sym u.device.held) known);
             };
-            torn = λ before after at_before at_after.
-                pieces before (same_Some image before (sym told ∙ at_before)) after (b.torn before after (u.device.held ∙ at_before) at_after);
+            torn = λ one other at_one at_other.
+                let t = tears image told tree p m one other at_one at_other in
+                subst (λ (w : Work). TornGroup old.core.heap.limit tree p (done_by old.core.writable tree edits) w.tree one other) (same_Ok (sym t.made ∙ f.whole.made)) t.torn;
           }
-        where
-          pieces : (before : List ℕ) → image ≡ before → (after : List ℕ) → (wanted : List ℕ) × (now.image ≡ Some wanted) × ((number : ℕ) × TornAt number before wanted after)
-              → (wanted : List ℕ) × IsGroupWhole old.core.heap.limit old.core.writable edits tree p (stands_at image told tree p m).follows.work (stands_at image told tree p m).follows.placement before wanted × ((number : ℕ) × TornAt number before wanted after)
-          pieces before same after (wanted, is, torn) =
-              let i = stands_at image told tree p m in
-              let f = i.follows in (
-                wanted,
-                subst (λ (bytes : List ℕ). IsGroupWhole old.core.heap.limit old.core.writable edits tree p f.work f.placement bytes wanted) same
-                    (subst (λ (bytes : List ℕ). IsGroupWhole old.core.heap.limit old.core.writable edits tree p f.work f.placement image bytes) (same_Some i.shown wanted (sym i.is ∙ is))
-                    (subst (λ (es : List Edit). IsGroupWhole old.core.heap.limit old.core.writable es tree p f.work f.placement image i.shown) whole f.whole)),
-                torn,
-              )
 
       pub breaks_leave : RefusalLeaves error.WriteFault old new
       breaks_leave = (b.broken, b.core ∙ u.core)

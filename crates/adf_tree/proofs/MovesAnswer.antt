@@ -21,6 +21,7 @@ use Rattle.tree_edits.proofs.Nodes.{its_row}
 use Rattle.tree_edits.specs.Edits.{Does, KeepsCore, Refuses, memory_of}
 use Rattle.tree_edits.specs.Rows.{AreNear, Means}
 use Rattle.tree_edits.specs.declared.memory.Core.{Core}
+use Rattle.tree_edits.specs.Waiting.{Reaches}
 use Rattle.tree_moves.specs.Movable.{IsMovable, IsMoveCause, SourceBreaks}
 use Rattle.tree_moves.specs.Moved.{MovesWithin}
 use Rattle.adf_tree.proofs.EditsAnswer.{breaks_rule, unlisted_rule}
@@ -85,10 +86,10 @@ module _ (core : Core) (node at : NodeId) (before now : List ℕ) (n : ℕ) (le 
 module _ {S : Type 0} (is_sound : S → Type 0) (image : S → Option (List ℕ)) (state : S → DeviceState) (waiting : S → List ℕ) (core after : Core) (node at : NodeId) (old new : S)
     (kept : KeepsCore core after) (near : AreNear after.wide after.rows.items)
   where
-    pub move_done : Both (Does (Move node at) core after) (image old) (image new) → IsMovable core node at (image old)
+    pub move_done : Both (Does (Move node at) core after) (image old) (image new) → IfSome (image old) (Reaches (Move node at) core after (waiting old) (waiting new)) → IsMovable core node at (image old)
         → ((n : ℕ) × MovesWithin core node at (image old) n × AnswersWrite {T = Unit {0}} is_sound state waiting n OnlyReads (IsMoveCause core node at (image old)) old new (Ok tt))
         → EditAnswers is_sound image state waiting (Move node at) core after old new (Ok None)
-    move_done does may w = record {
+    move_done does reaches may w = record {
       sound = w.2.sound;
       done = does;
       serial = refl;
@@ -98,6 +99,7 @@ module _ {S : Type 0} (is_sound : S → Type 0) (image : S → Option (List ℕ)
       near = near;
       effect = w.2.effect;
       cost = move_within core node at (waiting old) (waiting new) w.0 w.2.waits (image old) w.1;
+      reached = reaches;
       cause = tt;
     }
 
@@ -114,5 +116,6 @@ module _ {S : Type 0} (is_sound : S → Type 0) (image : S → Option (List ℕ)
       near = near;
       effect = w.2.effect;
       cost = tt;
+      reached = tt;
       cause = move_cause core node at (image old) (state old).faults (state new).faults e w.2.cause;
     }

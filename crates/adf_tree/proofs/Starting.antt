@@ -9,6 +9,7 @@ use Rattle.cg_io.specs.Blocks.{Both}
 use Rattle.cg_io.specs.Device.{DeviceState}
 use Rattle.adf_model.specs.declared.tree.Edit.{Edit}
 use Rattle.adf_model.specs.declared.tree.NodeId.{NodeId}
+use Rattle.adf_model.proofs.Basics.{not_true}
 use Rattle.adf_tree.specs.Reached.{with_reached}
 use Rattle.tree_laws.proofs.Whole.GroupsWhole.{whole_group_begins}
 use Rattle.file_heap.specs.Heap.{FreeSpace}
@@ -33,6 +34,7 @@ none_done core (Some image) = λ tree p m. record {
   whole = whole_group_begins core.heap.limit core.writable tree p image m.laid_out;
   means = m;
   cost = omega arith;
+  reached = λ n waits. absurd (not_true waits);
 }
 
 pub no_steps : (items : List (Edit × Option NodeId)) → items ≡ [] → map (λ (e : Edit × Option NodeId). with_reached e.0 e.1) items ≡ []

@@ -1,27 +1,31 @@
 -- Edits in work, and one more.
-use Rattle.std.proofs.Common.{◌≡◌, ℕ, suc, refl, sym, ◌∙◌, ap, subst, arith, List, [], ◌∷◌, ◌++◌, length, take, ◌+◌, ◌≤◌, Bool, true, false}
+use Rattle.std.proofs.Common.{◌≡◌, inl, inr, ℕ, suc, refl, sym, ◌∙◌, ap, subst, arith, List, [], ◌∷◌, ◌++◌, length, take, ◌+◌, ◌≤◌, Bool, true, false}
 use Rattle.std.specs.Prelude.{Option, Some, None, IfSome, slice_get, Ok}
 use Rattle.adf_format.specs.Tree.{Tree}
-use Rattle.adf_format.specs.Placement.{Placement}
+use Rattle.adf_format.specs.Placement.{Placement, Heap}
 use Rattle.adf_model.specs.Counts.{DeviceState, OnlyReads}
 use Rattle.adf_model.specs.Edits.{created_by, file_step}
 use Rattle.adf_model.specs.FileGroup.{done_by}
 use Rattle.adf_model.specs.Need.{cost}
 use Rattle.adf_model.specs.Placing.{chunk_number, group_cost}
+use Rattle.adf_model.specs.Untouched.{touched_extents, group_touched}
 use Rattle.adf_model.specs.declared.tree.Edit.{Edit}
 use Rattle.block_cache.specs.Cache.{IsCache}
 use Rattle.block_draft.specs.Draft.{blocks_below, changes_in, waiting_in}
 use Rattle.cg_io.specs.Blocks.{Both}
-use Rattle.cg_io.specs.Waits.{how_many}
+use Rattle.cg_io.specs.Waits.{Waits, how_many}
 use Rattle.file_heap.specs.Heap.{FreeSpace}
 use Rattle.tree_laws.specs.Groups.{tree_left, placement_left}
+use Rattle.tree_laws.specs.Reached.{CanReach}
 use Rattle.tree_laws.specs.WholeGroups.{IsGroupWhole}
 use Rattle.tree_laws.proofs.Groups.GroupsGrow.{group_is_done, done_grow, placement_is_left, cost_grows}
 use Rattle.tree_laws.proofs.Whole.GroupsWhole.{whole_group_goes_on}
+use Rattle.tree_laws.proofs.Whole.Reached.{group_reaches_more}
 use Rattle.tree_edits.specs.declared.memory.Core.{Core}
 use Rattle.tree_edits.specs.declared.rows.Row.{Row}
-use Rattle.tree_edits.specs.Edits.{Does, KeepsCore, memory_of}
+use Rattle.tree_edits.specs.Edits.{Does, Follows, KeepsCore, memory_of}
 use Rattle.tree_edits.specs.Rows.{AreNear}
+use Rattle.tree_edits.specs.Waiting.{Reaches}
 use Rattle.adf_tree.specs.declared.file.AdfFile.{AdfFile}
 use Rattle.adf_tree.specs.Files.{steps_in, device_of, image_in, accepted, HasMeaning, FollowsAll, DoesAll, IsWorking, IsFile}
 use Rattle.adf_tree.specs.Commits.{committed}
@@ -56,7 +60,7 @@ work_means steps n was now (Some held) None b m = absurd b
 work_means steps n was now (Some held) (Some image) b m = let f = b m.0 m.1 m.2 in (f.work.tree, f.placement, f.means)
 
 module _ (steps : List Edit) (edit : Edit) (n m : List ℕ) (core after : Core) (a b c : List ℕ) (all : DoesAll steps n (accepted core) core a b) (does : Does edit core after b c)
-    (within : IsWithinCost edit core n m b)
+    (within : IsWithinCost edit core n m b) (reaches : Reaches edit core after n m b)
   where
     one_more : DoesAll (steps ++ edit ∷ []) m (accepted core) after a c
     one_more tree p means =
@@ -72,6 +76,7 @@ module _ (steps : List Edit) (edit : Edit) (n m : List ℕ) (core after : Core) 
               (subst (λ (es : List Edit). IsGroupWhole limit writable es tree p f.work f.placement a b) (sym (first_steps steps edit)) f.whole) g.whole);
           means = g.means;
           cost = costs tree p f g.after g.whole.made (within f.work.tree f.placement f.means);
+          reached = reach tree p f g;
         }
       where
         costs : (tree : Tree) (p : Placement) (f : FollowsAll core.heap.limit core.writable steps n tree p (memory_of core) a b) (next : Tree) (made : file_step core.writable f.work.tree edit ≡ Ok next)
@@ -89,14 +94,28 @@ module _ (steps : List Edit) (edit : Edit) (n m : List ℕ) (core after : Core) 
             let before = f.cost in
             omega (arith, few, before, total, last)
 
+        -- what waited before can be reached by the edits before this one, and what waits anew by this one
+        reach : (tree : Tree) (p : Placement) (f : FollowsAll core.heap.limit core.writable steps n tree p (memory_of core) a b) (g : Follows core.heap.limit core.writable edit f.work.tree f.placement (memory_of after) b c)
+            → (k : ℕ) → Waits m k → CanReach (group_touched core.heap.limit tree p (done_by core.writable tree (steps ++ edit ∷ []))) tree.wide p g.placement.heap.end k
+        reach tree p f g k waits =
+            let limit = core.heap.limit in
+            let writable = core.writable in
+            let more = group_reaches_more limit writable (steps ++ edit ∷ []) (length steps) edit tree p f.work g.after f.placement g.placement a b c (last_step steps edit)
+            (subst (λ (es : List Edit). IsGroupWhole limit writable es tree p f.work f.placement a b) (sym (first_steps steps edit)) f.whole) g.whole in
+            subst (λ (es : List Edit). CanReach (group_touched limit tree p (done_by writable tree es)) tree.wide p g.placement.heap.end k) (all_steps steps edit)
+            (elim (reaches f.work.tree f.placement f.means k waits) [
+              | inl before ↦ more.0 k (subst (λ (es : List Edit). CanReach (group_touched limit tree p (done_by writable tree es)) tree.wide p f.placement.heap.end k) (sym (first_steps steps edit)) (f.reached k before))
+              | inr anew ↦ more.1 k (subst (λ (h : Heap). CanReach (touched_extents f.work.tree f.placement edit) f.work.tree.wide f.placement h.end k) (sym g.means.heap) anew)
+            ])
+
 pub one_more_both : (steps : List Edit) (edit : Edit) (n m : List ℕ) (core after : Core) (held image new : Option (List ℕ)) → Both (DoesAll steps n (accepted core) core) held image
-    → Both (Does edit core after) image new → IfSome image (IsWithinCost edit core n m) → Both (DoesAll (steps ++ edit ∷ []) m (accepted core) after) held new
-one_more_both steps edit n m core after None None None all does within = tt
-one_more_both steps edit n m core after None None (Some new) all does within = absurd does
-one_more_both steps edit n m core after None (Some image) new all does within = absurd all
-one_more_both steps edit n m core after (Some held) None new all does within = absurd all
-one_more_both steps edit n m core after (Some held) (Some image) None all does within = absurd does
-one_more_both steps edit n m core after (Some held) (Some image) (Some new) all does within = one_more steps edit n m core after held image new all does within
+    → Both (Does edit core after) image new → IfSome image (IsWithinCost edit core n m) → IfSome image (Reaches edit core after n m) → Both (DoesAll (steps ++ edit ∷ []) m (accepted core) after) held new
+one_more_both steps edit n m core after None None None all does within reaches = tt
+one_more_both steps edit n m core after None None (Some new) all does within reaches = absurd does
+one_more_both steps edit n m core after None (Some image) new all does within reaches = absurd all
+one_more_both steps edit n m core after (Some held) None new all does within reaches = absurd all
+one_more_both steps edit n m core after (Some held) (Some image) None all does within reaches = absurd does
+one_more_both steps edit n m core after (Some held) (Some image) (Some new) all does within reaches = one_more steps edit n m core after held image new all does within reaches
 
 -- ---- the memory
 
@@ -130,8 +149,8 @@ module _ {D : Type 0} (state : D → DeviceState) (old new : AdfFile D) (w : IsW
     -- once one more edit is done
     pub one_more_works : (edit : Edit) → new.broken ≡ false → IsCache state (blocks_below new.draft) → AreNear new.core.wide new.core.rows.items
         → steps_in new ≡ steps_in old ++ edit ∷ [] → Both (Does edit old.core new.core) (image_in state old) (image_in state new)
-        → IfSome (image_in state old) (IsWithinCost edit old.core (waiting_in old.draft) (waiting_in new.draft)) → IsWorking state new
-    one_more_works edit still cache near steps does within = record {
+        → IfSome (image_in state old) (IsWithinCost edit old.core (waiting_in old.draft) (waiting_in new.draft)) → IfSome (image_in state old) (Reaches edit old.core new.core (waiting_in old.draft) (waiting_in new.draft)) → IsWorking state new
+    one_more_works edit still cache near steps does within reaches = record {
       cache = cache;
       near = near;
       kept_near = kept_near;
@@ -140,7 +159,7 @@ module _ {D : Type 0} (state : D → DeviceState) (old new : AdfFile D) (w : IsW
           subst (λ (held : Option (List ℕ)). Both (DoesAll (steps_in new) (waiting_in new.draft) (accepted new.core) new.core) held (image_in state new)) (sym reads.held)
           (subst (λ (core : Core). Both (DoesAll (steps_in new) (waiting_in new.draft) core new.core) (device_of state old).held (image_in state new)) (sym same_core)
           (subst (λ (es : List Edit). Both (DoesAll es (waiting_in new.draft) (accepted old.core) new.core) (device_of state old).held (image_in state new)) (sym steps)
-          (one_more_both (steps_in old) edit (waiting_in old.draft) (waiting_in new.draft) old.core new.core (device_of state old).held (image_in state old) (image_in state new) (w.work live) does within)));
+          (one_more_both (steps_in old) edit (waiting_in old.draft) (waiting_in new.draft) old.core new.core (device_of state old).held (image_in state old) (image_in state new) (w.work live) does within reaches)));
       idle = λ e. absurd (not_empty (steps_in old) edit (sym steps ∙ e));
       stopped = λ e. absurd (not_both new.broken still e);
     }

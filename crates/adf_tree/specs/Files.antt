@@ -7,13 +7,15 @@ use Rattle.adf_model.specs.Edits.{Work}
 use Rattle.adf_model.specs.FileGroup.{done_by}
 use Rattle.adf_model.specs.Placing.{group_cost}
 use Rattle.adf_model.specs.Slots.{Device}
+use Rattle.adf_model.specs.Untouched.{group_touched}
 use Rattle.adf_model.specs.declared.tree.Edit.{Edit}
 use Rattle.adf_model.specs.declared.tree.NodeId.{NodeId}
 use Rattle.adf_tree.specs.Reached.{with_reached}
 use Rattle.block_cache.specs.Cache.{IsCache, device_in}
 use Rattle.block_draft.specs.Draft.{blocks_below, changes_in, waiting_in, shown_in}
 use Rattle.cg_io.specs.Blocks.{Both}
-use Rattle.cg_io.specs.Waits.{how_many}
+use Rattle.cg_io.specs.Waits.{Waits, how_many}
+use Rattle.tree_laws.specs.Reached.{CanReach}
 use Rattle.tree_laws.specs.WholeGroups.{IsGroupWhole}
 use Rattle.tree_edits.specs.declared.memory.Core.{Core}
 use Rattle.tree_edits.specs.Edits.{memory_of}
@@ -64,7 +66,8 @@ abbrev pub HasMeaning : Core → Option (List ℕ) → Type 0
 HasMeaning core held = IfSome held (λ image. (tree : Tree) × (p : Placement) × Means image tree p (memory_of core))
 
 -- Of a tree and a placement: the tree of the edits one after another, where the rule of the heap puts it, with all that they
--- leave; what is in memory afterwards is its, and the blocks that wait are no more than the edits cost.
+-- leave; what is in memory afterwards is its, and the blocks that wait are no more than the edits cost, each with a byte that they may
+-- write.
 pub record FollowsAll (limit : ℕ) (writable : Bool) (edits : List Edit) (waiting : List ℕ) (tree : Tree) (p : Placement) (now : Memory)
     (old new : List ℕ) : Type 0 where
   pub work : Work
@@ -72,6 +75,7 @@ pub record FollowsAll (limit : ℕ) (writable : Bool) (edits : List Edit) (waiti
   pub whole : IsGroupWhole limit writable edits tree p work placement old new
   pub means : Means new work.tree placement now
   pub cost : how_many waiting ≤ group_cost limit tree p (done_by writable tree edits)
+  pub reached : (n : ℕ) → Waits waiting n → CanReach (group_touched limit tree p (done_by writable tree edits)) tree.wide p placement.heap.end n
 
 -- the edits of each tree and placement that the bytes and the memory mean
 abbrev pub DoesAll : List Edit → List ℕ → Core → Core → List ℕ → List ℕ → Type 0

@@ -1,22 +1,20 @@
 -- What a group of edits answers, and what it leaves of an open file.
-use Rattle.std.specs.Prelude.{◌≡◌, ◌≢◌, ◌⊎◌, ℕ, true, false, if◌then◌else◌, List, [], ◌∷◌, ◌++◌, length, take, Some, None, Option, IfSome, IsTrue, slice_get, ⊤, Result, Ok, Err}
+use Rattle.std.specs.Prelude.{◌≡◌, ◌⊎◌, ℕ, true, false, if◌then◌else◌, List, [], ◌∷◌, ◌++◌, length, take, Some, None, Option, IfSome, IsTrue, slice_get, ⊤, Result, Ok, Err}
 use Rattle.adf_format.specs.Tree.{Tree}
 use Rattle.adf_format.specs.Placement.{Placement}
 use Rattle.adf_format.specs.RuleNumbers.{IsRule}
 use Rattle.adf_model.specs.Causes.{may_refuse_edit}
 use Rattle.adf_model.specs.Counts.{OnlyReads}
 use Rattle.adf_model.specs.Edits.{Work, file_group}
-use Rattle.adf_model.specs.FileGroup.{ArePlacedIn, FileEdited, FileStops, FileGroupAnyway, IsWritten}
+use Rattle.adf_model.specs.FileGroup.{FileBreaks, FileEdited, FileStops, FileGroupAnyway}
 use Rattle.adf_model.specs.Slots.{Open, Standing, no_device}
-use Rattle.adf_model.specs.Slots.Slot.{Live}
-use Rattle.adf_model.specs.Torn.{TornAt}
+use Rattle.adf_model.specs.Slots.Slot.{Broken, Live}
 use Rattle.adf_model.specs.declared.error.AdfError.{AdfError}
 use Rattle.adf_model.specs.declared.error.AdfError.TheVariants as error
 use Rattle.adf_model.specs.declared.error.EditError.{EditError}
 use Rattle.adf_model.specs.declared.tree.Edit.{Edit}
 use Rattle.adf_model.specs.declared.tree.Edit.TheVariants.{Create, Link}
 use Rattle.adf_model.specs.declared.tree.NodeId.{NodeId}
-use Rattle.tree_laws.specs.WholeGroups.{IsGroupWhole}
 use Rattle.tree_edits.specs.declared.memory.Core.{Core}
 use Rattle.tree_edits.specs.Edits.{memory_of}
 use Rattle.tree_edits.specs.Rows.{Means}
@@ -62,14 +60,9 @@ GroupStops edits at e tree p old new =
     FileStops (opened_as old.core tree) (device_with p old.device) edits at e (device_with p new.device) (Live (opened_as old.core tree))
 
 -- all edits are done, and a write failed: the device holds a first part of what was to be written, up to a block that is torn
-pub record GroupBreaks (edits : List Edit) (at : ℕ) (tree : Tree) (p : Placement) (old new : FileState) : Type 0 where
-  pub all : ArePlacedIn (opened_as old.core tree) p edits
-  pub some : edits ≢ []
-  pub index : at ≡ length edits
-  pub written : IsWritten (opened_as old.core tree) (device_with p old.device) edits (device_with p new.device)
-  pub torn : (before after : List ℕ) → old.device.held ≡ Some before → new.device.held ≡ Some after
-      → (wanted : List ℕ) × IsGroupWhole old.core.heap.limit old.core.writable edits tree p all.work all.placement before wanted
-      × ((number : ℕ) × TornAt number before wanted after)
+abbrev pub GroupBreaks : List Edit → ℕ → Tree → Placement → FileState → FileState → Type 0
+GroupBreaks edits at tree p old new =
+    FileBreaks (opened_as old.core tree) (device_with p old.device) edits at (device_with p new.device) Broken
 
 abbrev pub GroupRefused : List Edit → ℕ → AdfError → Tree → Placement → FileState → FileState → Type 0
 GroupRefused edits at error.WriteFault tree p old new = GroupBreaks edits at tree p old new

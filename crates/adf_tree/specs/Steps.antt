@@ -17,6 +17,7 @@ use Rattle.cg_io.specs.Waits.{how_many}
 use Rattle.tree_edits.specs.declared.memory.Core.{Core}
 use Rattle.tree_edits.specs.Edits.{Does, Refuses, KeepsCore, memory_of}
 use Rattle.tree_edits.specs.Rows.{AreNear, Means}
+use Rattle.tree_edits.specs.Waiting.{Reaches}
 use Rattle.adf_tree.specs.Files.{FileState, accepted}
 
 -- the serial that an edit draws, where so many were drawn before
@@ -56,6 +57,7 @@ pub record EditAnswers {S : Type 0} (is_sound : S → Type 0) (image : S → Opt
   pub near : AreNear now.wide now.rows.items
   pub effect : OnlyReads (state old) (state new)
   pub cost : OnOk result (IfSome (image old) (IsWithinCost edit was (waiting old) (waiting new)))
+  pub reached : OnOk result (IfSome (image old) (Reaches edit was now (waiting old) (waiting new)))
   pub cause : IfErr result (IsStepCause edit (state old).faults (state new).faults)
 
 -- ---- a file
@@ -71,6 +73,7 @@ pub record Stepped (edit : Edit) (serial : Option ℕ) (old new : FileState) : T
   pub done : Both (Does edit old.core new.core) old.image new.image
   pub drawn : serial ≡ drawn_by edit (length old.core.rows.items)
   pub cost : IfSome old.image (IsWithinCost edit old.core old.waiting new.waiting)
+  pub reached : IfSome old.image (Reaches edit old.core new.core old.waiting new.waiting)
 
 -- the file as it was last committed, with its device as a call has left it
 abbrev pub undone_over : DeviceState → FileState → FileState

@@ -4,7 +4,7 @@ use Rattle.adf_tree.proofs.edits.move_node.Goals as goal
 pub returns-in-Ok : goal.returns-in-Ok
 returns-in-Ok g c =
     move_done g.S.ReadBytes.is_sound g.S.ReadBytes.image g.S.ReadBytes.state g.S.ReadBytes.waiting c.args.core.now c.move_to.new.core c.args.node c.args.at c.args.space.now c.move_to.new.space
-    c.move_to.ensures.kept c.move_to.ensures.near c.in-Ok.ensures.done c.in-Ok.ensures.allowed c.in-Ok.ensures.writes
+    c.move_to.ensures.kept c.move_to.ensures.near c.in-Ok.ensures.done c.in-Ok.ensures.reached c.in-Ok.ensures.allowed c.in-Ok.ensures.writes
 
 pub returns-in-Err : goal.returns-in-Err
 returns-in-Err g c =

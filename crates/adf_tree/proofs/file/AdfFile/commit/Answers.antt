@@ -30,6 +30,7 @@ returns-in-Err-clause-ends g c =
     let state = g.D.Device.state in
     let new = c.drop_steps.new.self in
     breaks (state_of state c.args.self.now) (state_of state (record new { broken = _ })) (state (device_in (blocks_below c.commit.new.self))) (changes_in c.args.self.now.draft)
-    c.if-self.false refl c.drop_steps.ensures.core (no_steps _ c.drop_steps.ensures.steps) (ap (λ draft. state (device_in (blocks_below draft))) c.drop_steps.ensures.draft) refl refl
+    c.if-self.false refl c.drop_steps.ensures.core (no_steps _ c.drop_steps.ensures.steps) (ap (λ draft. state (device_in (blocks_below draft))) c.drop_steps.ensures.draft)
+    (c.requires.work c.if-self.false) (λ none. (c.requires.idle none).changes) refl refl
     c.commit.ensures.ascend c.in-Err.ensures.torn c.commit.ensures.few c.commit.ensures.reads
     c.commit.ensures.cause.later c.in-Err.ensures.cause.failed c.commit.ensures.lost.later c.in-Err.ensures.lost.failed

@@ -24,7 +24,7 @@ returns-in-Ok-clause-sound g c =
     let answers = c.in-Ok.ensures in
     one_more_works state file _ c.requires.sound c.if-self.false answers.kept answers.effect (with_reached c.args.edit.now c.args.there) c.if-self.false answers.sound answers.near
     (ap (map (λ (e : Edit × Option NodeId). with_reached e.0 e.1)) c.and-self.ensures ∙ map-append (λ (e : Edit × Option NodeId). with_reached e.0 e.1) file.steps.items ((c.args.edit.now, c.args.there) ∷ []))
-    answers.done answers.cost
+    answers.done answers.cost answers.reached
 
 pub returns-in-Err-clause-sound : goal.returns-in-Err-clause-sound
 returns-in-Err-clause-sound g c =
