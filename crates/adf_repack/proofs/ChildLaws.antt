@@ -124,7 +124,7 @@ module _ (test : ℕ → Bool) (a n : ℕ) (later : (xs : List ℕ) → ArePassi
       ∙ later (y ∷ ys) (rest, h.1, (λ x up down t. h.2 x (omega (arith, up)) (omega (arith, down)) t))
 
 -- the numbers of a range that pass a test are these
-kept_are : (test : ℕ → Bool) (a n : ℕ) (xs : List ℕ) → ArePassing test a (a + n) xs → filter test (range_with_len a n) ≡ xs
+pub kept_are : (test : ℕ → Bool) (a n : ℕ) (xs : List ℕ) → ArePassing test a (a + n) xs → filter test (range_with_len a n) ≡ xs
 kept_are test a zero xs h = sym (none_here a 0 xs refl h.0)
 kept_are test a (suc n) xs h = one_test test a n (λ ys g. kept_are test (a + 1) n ys g) (test a) refl xs h
 
@@ -135,13 +135,13 @@ in_order_to p [] k w h e = absurd (not_there w e)
 in_order_to p (v ∷ vs) zero w h e = subst (λ (u : Visit). IsBefore p u.path) (same_Some v w e) h.0
 in_order_to p (v ∷ vs) (suc k) w h e = in_order_to p vs k w h.1 e
 
-in_order_at : (vs : List Visit) (i j : ℕ) (u w : Visit) → InOrder IsBefore vs → i < j → slice_get vs i ≡ Some u → slice_get vs j ≡ Some w → IsBefore u.path w.path
+pub in_order_at : (vs : List Visit) (i j : ℕ) (u w : Visit) → InOrder IsBefore vs → i < j → slice_get vs i ≡ Some u → slice_get vs j ≡ Some w → IsBefore u.path w.path
 in_order_at [] i j u w h lt e f = absurd (not_there u e)
 in_order_at (v ∷ vs) i zero u w h lt e f = absurd (omega (arith, lt))
 in_order_at (v ∷ vs) zero (suc j) u w h lt e f = subst (λ (x : Visit). IsBefore x.path w.path) (same_Some v u e) (in_order_to v.path vs j w h.0 f)
 in_order_at (v ∷ vs) (suc i) (suc j) u w h lt e f = in_order_at vs i j u w h.1 (omega (arith, lt)) e f
 
-not_before : (p : List ℕ) (i j : ℕ) → i ≤ j → IsBefore (p ++ j ∷ []) (p ++ i ∷ []) → ⊥
+pub not_before : (p : List ℕ) (i j : ℕ) → i ≤ j → IsBefore (p ++ j ∷ []) (p ++ i ∷ []) → ⊥
 not_before [] i j le (inl lt) = omega (arith, le, lt)
 not_before [] i j le (inr h) = h.1
 not_before (a ∷ p) i j le (inl lt) = omega (arith, lt)

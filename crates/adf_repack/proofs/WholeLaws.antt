@@ -79,7 +79,7 @@ map_at g a (suc n) (suc i) lt = map_at g (a + 1) n i (omega (arith, lt)) ∙ ap 
     shift : (a i : ℕ) → a + 1 + i ≡ a + suc i
     shift a i = omega arith
 
-dims_first : (g : ℕ → ℕ) (r : ℕ) (dims : List ℕ) → r ≡ length dims → length dims ≤ 12 → ((i d : ℕ) → slice_get dims i ≡ Some d → g i ≡ d) → take r (map g (range_with_len 0 12)) ≡ dims
+pub dims_first : (g : ℕ → ℕ) (r : ℕ) (dims : List ℕ) → r ≡ length dims → length dims ≤ 12 → ((i d : ℕ) → slice_get dims i ≡ Some d → g i ≡ d) → take r (map g (range_with_len 0 12)) ≡ dims
 dims_first g r dims rank few each =
     same_number_lists (take r (map g (range_with_len 0 12))) dims long
     (λ k lt. (let inside : k < length dims = omega (arith, lt, long) in

@@ -145,7 +145,7 @@ filter_among g a (suc m) i c low high e = elim (eqb_tells i a) [
 
 -- ---- paths that end alike
 
-path_before : (p q : List ℕ) (i j : ℕ) → p ++ i ∷ [] ≡ q ++ j ∷ [] → p ≡ q
+pub path_before : (p q : List ℕ) (i j : ℕ) → p ++ i ∷ [] ≡ q ++ j ∷ [] → p ≡ q
 path_before p q i j e =
     let lengths : length p ≡ length q = equal (length p) (length q) (sym (length-append p (i ∷ [])) ∙ ap length e ∙ length-append q (j ∷ [])) in
     sym (take-append_seam p (i ∷ [])) ∙ ap (take (length p)) e ∙ ap (λ n. take n (q ++ j ∷ [])) lengths ∙ take-append_seam q (j ∷ [])
@@ -153,7 +153,7 @@ path_before p q i j e =
     equal : (a b : ℕ) → a + 1 ≡ b + 1 → a ≡ b
     equal a b e = omega (arith, e)
 
-last_same : (p : List ℕ) (i j : ℕ) → p ++ i ∷ [] ≡ p ++ j ∷ [] → i ≡ j
+pub last_same : (p : List ℕ) (i j : ℕ) → p ++ i ∷ [] ≡ p ++ j ∷ [] → i ≡ j
 last_same [] i j e = ap (λ (l : List ℕ). get_or l 0 i) e
 last_same (a ∷ p) i j e = last_same p i j (ap tail e)
   where
