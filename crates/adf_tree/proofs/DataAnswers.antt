@@ -11,7 +11,7 @@ use Rattle.adf_model.specs.declared.tree.NodeId.{NodeId}
 use Rattle.adf_model.specs.declared.tree.Shape.{Shape}
 use Rattle.cg_io.specs.Blocks.{Both}
 use Rattle.data_edits.specs.Found.{IsNodeCause}
-use Rattle.data_edits.specs.Puts.{IsDataCause, IsDataRefusal, IsPutCause, Part, edit_of}
+use Rattle.data_edits.specs.Puts.{IsDataCause, IsPutCause, Part, edit_of}
 use Rattle.data_edits.specs.Puts.Part.{Whole, Chosen}
 use Rattle.data_edits.specs.Shaped.{IsShapeCause}
 use Rattle.tree_edits.specs.Causes.{named_row, HeaderBreaks}

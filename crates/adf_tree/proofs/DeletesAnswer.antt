@@ -1,13 +1,13 @@
 -- What a deletion over a space answers, as a step of an open file.
-use Rattle.std.proofs.Common.{◌≡◌, inl, inr, ℕ, suc, refl, sym, ◌∙◌, ap, subst, arith, List, [], ◌∷◌, map, sum, length, ◌+◌, ◌*◌, ◌/◌, ◌≤◌}
+use Rattle.std.proofs.Common.{◌≡◌, inl, inr, ℕ, suc, refl, sym, ◌∙◌, ap, subst, arith, List, [], ◌∷◌, map, sum, length, ◌+◌, ◌*◌, ◌≤◌}
 use Rattle.std.proofs.lemmas.List.Sums.{sum_by-cons}
 use Rattle.std.specs.List.{All}
-use Rattle.std.specs.Prelude.{Option, Some, None, IfSome, OnOk, Result, Ok, Err}
+use Rattle.std.specs.Prelude.{Option, Some, None, IfSome, Ok, Err}
 use Rattle.adf_format.specs.HeapRule.{parts_or_none}
 use Rattle.adf_format.specs.Placement.{NodeParts, Placement}
-use Rattle.adf_format.specs.Tree.{Tree, children_at, parent_of, subtree}
+use Rattle.adf_format.specs.Tree.{Tree, children_at, parent_of}
 use Rattle.adf_model.specs.Counts.{DeviceState, OnlyReads}
-use Rattle.adf_model.specs.Need.{cost, deleted_nodes, siblings_of, touched_nodes}
+use Rattle.adf_model.specs.Need.{cost, siblings_of}
 use Rattle.adf_model.specs.Placing.{chunk_number}
 use Rattle.adf_model.specs.declared.error.AdfError.{AdfError}
 use Rattle.adf_model.specs.declared.error.AdfError.TheVariants as error
@@ -19,15 +19,14 @@ use Rattle.cg_io.specs.Answers.{AnswersWrite}
 use Rattle.cg_io.specs.Blocks.{Both, blocks_of}
 use Rattle.cg_io.specs.Waits.{how_many}
 use Rattle.tree_deletes.specs.Deleted.{DeletesWithin, IsDeleteCause, MayDelete}
-use Rattle.tree_deletes.specs.Doomed.{AreDoomed, IsDoomed}
+use Rattle.tree_deletes.specs.Doomed.{IsDoomed}
 use Rattle.tree_deletes.specs.Erased.{serials_of}
 use Rattle.tree_deletes.specs.Given.{gift_cost}
 use Rattle.tree_edits.proofs.Kids.{count_is, kids_are}
 use Rattle.tree_edits.proofs.Nodes.{its_row}
 use Rattle.tree_edits.specs.Edits.{Does, KeepsCore, Refuses, memory_of}
-use Rattle.tree_edits.specs.Left.{entry_place, leave_cost, length_behind}
+use Rattle.tree_edits.specs.Left.{entry_place, length_behind}
 use Rattle.tree_edits.specs.Rows.{AreNear, Means}
-use Rattle.tree_edits.specs.declared.listed.Listed.{Listed}
 use Rattle.tree_edits.specs.declared.memory.Core.{Core}
 use Rattle.tree_edits.specs.Waiting.{Reaches}
 use Rattle.tree_laws.proofs.Groups.Pays.{edit_pays}

@@ -1,5 +1,5 @@
 -- A group under way, and its ends.
-use Rattle.std.proofs.Common.{◌≡◌, inl, inr, ℕ, suc, refl, sym, ◌∙◌, ap, subst, arith, List, [], ◌∷◌, ◌++◌, length, take, ◌≤◌, ◌<◌, Bool, true, false}
+use Rattle.std.proofs.Common.{◌≡◌, inl, inr, ℕ, suc, refl, sym, ◌∙◌, ap, subst, arith, List, [], ◌∷◌, ◌++◌, length, take, ◌<◌, Bool, true, false}
 use Rattle.std.proofs.lemmas.Bool.Decides.{eqb_tells}
 use Rattle.std.proofs.lemmas.Option.{slice_get_within}
 use Rattle.std.specs.Prelude.{Option, Some, None, IfSome, IsSome, IsTrue, is_some, ◌==◌, if◌then◌else◌, slice_get, Ok, Err}
@@ -10,7 +10,6 @@ use Rattle.adf_model.specs.Causes.{may_refuse_edit, IsIndex}
 use Rattle.adf_model.specs.Counts.{DeviceState, NoCountFell, OnlyReads, Rose}
 use Rattle.adf_model.specs.Edits.{Work, created_by, file_group, file_step}
 use Rattle.adf_model.specs.FileGroup.{FileGroupAnyway, RefusedAnyway, HasFileCause, IsBrokenGroup, done_by}
-use Rattle.adf_model.specs.Placing.{group_cost, place_group}
 use Rattle.adf_model.specs.Torn.{TornGroup}
 use Rattle.adf_model.specs.Slots.{Standing, no_device}
 use Rattle.adf_model.specs.Steps.{IsFileRefusal, OnlyRead}
@@ -22,8 +21,6 @@ use Rattle.adf_model.specs.declared.tree.Edit.TheVariants.{Create, Delete, Renam
 use Rattle.adf_model.specs.declared.tree.NodeId.{NodeId}
 use Rattle.adf_model.proofs.Basics.{not_true, same_Ok, same_Some}
 use Rattle.cg_io.specs.Blocks.{Both}
-use Rattle.cg_io.specs.Waits.{how_many}
-use Rattle.tree_laws.specs.WholeGroups.{IsGroupWhole}
 use Rattle.tree_laws.proofs.Whole.GroupsWhole.{whole_group_begins}
 use Rattle.tree_laws.proofs.Groups.GroupLoop.{made_more}
 use Rattle.tree_laws.proofs.Groups.GroupsGrow.{firsts_grow}

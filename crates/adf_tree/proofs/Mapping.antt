@@ -3,10 +3,10 @@ use Rattle.std.proofs.Common.{◌≡◌, ℕ, zero, suc, refl, sym, ◌∙◌, a
 use Rattle.std.proofs.lemmas.List.{append-nil}
 use Rattle.std.proofs.lemmas.List.Sorted.{IsPermutation-refl}
 use Rattle.std.specs.List.Sorted.{IsPermutation}
-use Rattle.std.specs.Prelude.{Option, Some, None, is_some, IfSome, slice_index_or, Result, Ok, Err, ⊤}
+use Rattle.std.specs.Prelude.{Option, Some, None, is_some, IfSome, slice_index_or, Ok, Err, ⊤}
 use Rattle.adf_format.specs.declared.types.Extent.{Extent}
 use Rattle.adf_format.proofs.LayoutLaws.{live_parts}
-use Rattle.adf_format.specs.Tree.{Tree, Node, node_at}
+use Rattle.adf_format.specs.Tree.{Tree, Node}
 use Rattle.adf_format.specs.Placement.{Placement, NodeParts, parts_of}
 use Rattle.adf_format.specs.Verdict.{ListsExtents}
 use Rattle.adf_model.specs.Counts.{DeviceState, OnlyReads}

@@ -1,6 +1,6 @@
 -- What a move over a space answers, as a step of an open file.
 use Rattle.std.proofs.Common.{◌≡◌, inl, inr, ℕ, refl, sym, ◌∙◌, ap, subst, arith, List, length, ◌+◌, ◌*◌, ◌/◌, ◌≤◌, Bool, true, false}
-use Rattle.std.specs.Prelude.{Option, Some, None, nat_lt, if◌then◌else◌, IfSome, Result, Ok, Err}
+use Rattle.std.specs.Prelude.{Option, Some, None, nat_lt, if◌then◌else◌, IfSome, Ok, Err}
 use Rattle.adf_format.specs.HeapRule.{grown_entries}
 use Rattle.adf_format.specs.Parts.{table_length}
 use Rattle.adf_format.specs.Placement.{Placement}
