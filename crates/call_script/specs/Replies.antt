@@ -118,10 +118,8 @@ abbrev pub HasRule : AdfError → Type 0
 HasRule (Layout rule place) = (1 ≤ rule) × (rule ≤ 99)
 HasRule _ = ⊤
 
--- each field of the answer has a spelling: a rule has two digits, a rank is at most 12, and bytes are not empty
+-- each field of the answer has a spelling: a rule has two digits
 abbrev pub HasSpelling : Answer → Type 0
 HasSpelling (answer.Refused error) = HasRule error
 HasSpelling (answer.EditRefused error) = HasRule error.error
-HasSpelling (answer.Shape shape) = shape.rank ≤ 12
-HasSpelling (answer.Hex bytes) = 1 ≤ length bytes
 HasSpelling _ = ⊤

@@ -1,7 +1,8 @@
 //! Answers, as they are printed.
 
-ghost use Rattle.std.specs.Prelude.{◌≡◌, ◌≤◌, ◌++◌, ◌∷◌, OnOk, IfOk, IfErr, flat_map, length};
+ghost use Rattle.std.specs.Prelude.{◌≡◌, ◌++◌, ◌∷◌, OnOk, IfOk, IfErr, flat_map, length};
 ghost use Rattle.adf_format.specs.Parts.{type_word};
+ghost use Rattle.adf_model.specs.Shapes.{dims_of};
 ghost use Rattle.call_script.specs.Tokens.{dims_text, node_text};
 ghost use Rattle.call_script.specs.Replies.{reply_line, told, number_field, node_field, child_field, text_field, shape_text, HasSpelling};
 ghost use Rattle.hex.specs.Hex.{encode_lower};
@@ -14,8 +15,7 @@ use adf_model::{AdfError, Child, DataType, Format, NodeId, Shape, Text, spell};
 use std::alloc::Global;
 
 /// The line that is printed for an answer, without its line feed. A rule of the layout has at most
-/// two digits, a rank is at most 12, and bytes of data are not empty. It is refused only for want of
-/// memory.
+/// two digits. It is refused only for want of memory.
 pub fn reply_text(alloc: Global, answer: &Answer) -> Result<Text, AdfError>
     requires { HasSpelling answer.now }
     ensures line { IfOk result (λ line. line ≡ reply_line answer.now) }
@@ -76,13 +76,20 @@ fn append_text_field(alloc: Global, line: &mut Vec<u8>, text: &[u8]) -> Result<(
 
 // Appends a space, a type, a space and dimensions.
 fn append_shape_field(line: &mut Vec<u8>, shape: &Shape) -> Result<(), AdfError>
-    requires { shape.now.rank ≤ 12 }
     ensures done { OnOk result (line.new.items ≡ line.old.items ++ (32 ∷ shape_text shape.now)) }
     ensures memory { IfErr result (λ e. e ≡ AdfError.Memory) }
 {
     append(line, b" ")?;
     append(line, type_word(shape.kind))?;
-    append_dims_field(line, &shape.dims[..usize::from(shape.rank)])
+    append_dims_field(line, dims_in(shape))
+}
+
+// The dimensions of a shape: as many as its rank says, or all that there are.
+fn dims_in(shape: &Shape) -> &[u64]
+    ensures { result.now ≡ dims_of shape.now }
+{
+    let rank = usize::from(shape.rank).min(shape.dims.len());
+    &shape.dims[..rank]
 }
 
 // Appends a space and dimensions.
