@@ -1,15 +1,16 @@
 -- Turns follow one another.
 use Rattle.std.proofs.Common.{◌≡◌, ◌⊎◌, inl, inr, ℕ, List, [], ◌∷◌, ◌++◌, length, take, Option, Some, None, Result, Ok, Err, OnOk, IfErr, refl, sym, ap, subst, ◌∙◌, arith, append_assoc, append-nil, length-append}
+use Rattle.std.specs.List.{AllByRecursion}
 use Rattle.std.proofs.lemmas.List.{map-append}
 use Rattle.std.proofs.lemmas.Grind.{flat_map-append}
 use Rattle.std.specs.Io.KnownBytes.{Consumes, Appends, IsAtEnd, prepend_known}
 use Rattle.std.proofs.KnownBytes.{Appends-nil, Appends-trans, Consumes-trans, Consumes-nil}
 use Rattle.adf_model.specs.Slots.{Files, Devices}
 use Rattle.adf_model.specs.Steps.{Call}
-use Rattle.session.specs.Calls.{PlainMakes}
+use Rattle.adf_model.specs.Runs.{Makes, Run}
 use Rattle.session.specs.Input.{NoFeed, FirstLines, CutsLines, InputState, Uses, UsesLine, HasStopped, HasReason}
 use Rattle.session.specs.Printed.{AppendsPart}
-use Rattle.session.specs.Turns.{Says, Turn, Ran, lines_of, replies_of, printed_reply}
+use Rattle.session.specs.Turns.{Says, Turn, IsSaid, Ran, calls_of, lines_of, replies_of, printed_reply}
 use Rattle.session.specs.Session.{Scene, HasGoneOn, PrintsPart, Prints, IsBehind, IsBounded, IsCut, ending, HasRun}
 use Rattle.session.specs.declared.reader.Stopped.{Stopped}
 use Rattle.session.specs.declared.reader.Stopped.TheVariants as stopped
@@ -50,17 +51,20 @@ consumed_cut (Some x) (Some y) used pending consumes = append_assoc used pending
 
 -- ---- one turn
 
+one_ran : (files after : Files) (before now : Devices) (turn : Turn) → IsSaid turn → Makes files before turn.call now after → Ran files before (turn ∷ []) now after
+one_ran files after before now turn said made = record { said = (said, tt); run = (after, now, made, (refl, refl)) }
+
 one_reply : (turn : Turn) → replies_of (turn ∷ []) ≡ printed_reply turn.reply
 one_reply turn = append-nil (printed_reply turn.reply)
 
 pub went : (files after : Files) (before now : Devices) (line : List ℕ) (reply : Option (List ℕ)) (text later taken put : Option (List ℕ))
-    → (made : Call) × Says line made reply × PlainMakes files before made now after → CutsLines text (line ∷ []) later → Appends taken put (printed_reply reply)
+    → (made : Call) × Says line made reply × Makes files before made now after → CutsLines text (line ∷ []) later → Appends taken put (printed_reply reply)
     → HasGoneOn (record { files = files; devices = before; text = text; taken = taken }) (record { files = after; devices = now; text = later; taken = put })
 went files after before now line reply text later taken put said cut printed =
     let turn : Turn = record { line = line; call = said.0; reply = reply } in
     record {
       turns = turn ∷ [];
-      ran = (after, now, (said.1, said.2), (refl, refl));
+      ran = one_ran files after before now turn said.1 said.2;
       cut = cut;
       printed = subst (Appends taken put) (sym (one_reply turn)) printed;
     }
@@ -80,14 +84,14 @@ cut_prints ended.SinkFault turns printed cut part = part
 cut_prints ended.Memory turns printed cut part = part
 
 pub cut_short : (how : Ended) (files after : Files) (before now : Devices) (line pending : List ℕ) (reply : Option (List ℕ)) (text left taken put : Option (List ℕ))
-    → (made : Call) × Says line made reply × PlainMakes files before made now after → CutsLines text (line ∷ []) (prepend_known pending left)
+    → (made : Call) × Says line made reply × Makes files before made now after → CutsLines text (line ∷ []) (prepend_known pending left)
     → IsCut how × AppendsPart taken put (printed_reply reply)
     → HasRun how (record { files = files; devices = before; text = text; taken = taken }) (record { files = after; devices = now; text = left; taken = put })
 cut_short how files after before now line pending reply text left taken put said cut part =
     let turn : Turn = record { line = line; call = said.0; reply = reply } in
     record {
       turns = turn ∷ [];
-      ran = (after, now, (said.1, said.2), (refl, refl));
+      ran = one_ran files after before now turn said.1 said.2;
       ahead = pending;
       cut = cut;
       behind = cut_behind how pending left part.0;
@@ -138,7 +142,7 @@ pub stops : (why : Stopped) (files : Files) (devices : Devices) (old new : Input
     → HasRun (ending why) (record { files = files; devices = devices; text = prepend_known old.pending before; taken = taken }) (record { files = files; devices = devices; text = now; taken = taken })
 stops why files devices old new before now taken stop = record {
   turns = [];
-  ran = (refl, refl);
+  ran = record { said = tt; run = (refl, refl) };
   ahead = stop.part ++ new.pending;
   cut = consumed_cut (prepend_known old.pending before) now stop.part new.pending stop.used.text;
   behind = stops_behind why new stop.part now stop.plain stop.reason;
@@ -149,9 +153,22 @@ stops why files devices old new before now taken stop = record {
 
 -- ---- turns behind turns
 
+said_append : (turns more : List Turn) → AllByRecursion IsSaid turns → AllByRecursion IsSaid more → AllByRecursion IsSaid (turns ++ more)
+said_append [] more said then = then
+said_append (turn ∷ turns) more said then = (said.0, said_append turns more said.1 then)
+
+run_append : (files middle after : Files) (before between now : Devices) (calls more : List Call) → Run files before calls between middle → Run middle between more now after → Run files before (calls ++ more) now after
+run_append files middle after before between now [] more same then = subst (λ (f : Files). Run f before more now after) same.1 (subst (λ (d : Devices). Run middle d more now after) same.0 then)
+run_append files middle after before between now (call ∷ calls) more run then = (run.0, run.1, run.2, run_append run.0 middle after run.1 between now calls more run.3 then)
+
+calls_append : (turns more : List Turn) → calls_of (turns ++ more) ≡ calls_of turns ++ calls_of more
+calls_append turns more = map-append (λ (turn : Turn). turn.call) turns more
+
 ran_append : (files middle after : Files) (before between now : Devices) (turns more : List Turn) → Ran files before turns between middle → Ran middle between more now after → Ran files before (turns ++ more) now after
-ran_append files middle after before between now [] more same then = subst (λ (f : Files). Ran f before more now after) same.1 (subst (λ (d : Devices). Ran middle d more now after) same.0 then)
-ran_append files middle after before between now (turn ∷ turns) more ran then = (ran.0, ran.1, ran.2, ran_append ran.0 middle after ran.1 between now turns more ran.3 then)
+ran_append files middle after before between now turns more ran then = record {
+  said = said_append turns more ran.said then.said;
+  run = subst (λ (calls : List Call). Run files before calls now after) (sym (calls_append turns more)) (run_append files middle after before between now (calls_of turns) (calls_of more) ran.run then.run);
+}
 
 replies_append : (turns more : List Turn) → replies_of (turns ++ more) ≡ replies_of turns ++ replies_of more
 replies_append turns more = flat_map-append (λ (turn : Turn). printed_reply turn.reply) turns more
@@ -161,7 +178,7 @@ lines_append turns more = map-append (λ (turn : Turn). turn.line) turns more
 
 pub begun : (files : Files) (devices : Devices) (left taken : Option (List ℕ))
     → HasGoneOn (record { files = files; devices = devices; text = left; taken = taken }) (record { files = files; devices = devices; text = prepend_known [] left; taken = taken })
-begun files devices left taken = record { turns = []; ran = (refl, refl); cut = same left; printed = Appends-nil taken }
+begun files devices left taken = record { turns = []; ran = record { said = tt; run = (refl, refl) }; cut = same left; printed = Appends-nil taken }
   where
     same : (left : Option (List ℕ)) → CutsLines left [] (prepend_known [] left)
     same None = tt

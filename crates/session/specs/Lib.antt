@@ -1,4 +1,3 @@
-pub mod Calls
 pub mod Input
 pub mod Printed
 pub mod Turns
