@@ -6,6 +6,7 @@ pub mod OpenedReads
 pub mod Stepping
 pub mod Committing
 pub mod FreshFile
+pub mod FreshMade
 pub mod HeaderRules
 pub mod HeaderReads
 pub mod ReachedEdits

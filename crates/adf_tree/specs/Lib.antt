@@ -2,6 +2,7 @@ pub mod Reached
 pub mod Files
 pub mod Opening
 pub mod Fresh
+pub mod Making
 pub mod Commits
 pub mod Steps
 pub mod Headers

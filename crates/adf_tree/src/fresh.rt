@@ -51,8 +51,8 @@ fn wide_block() -> [u8; 4096]
     block
 }
 
-// The first block of the fresh file.
-fn first_block(wide: bool) -> [u8; 4096]
+/// The first block of the fresh file.
+pub(crate) fn first_block(wide: bool) -> [u8; 4096]
     ensures { result ≡ fresh_block wide }
 {
     if wide { wide_block() } else { narrow_block() }

@@ -11,9 +11,11 @@ mod groups;
 mod headers;
 mod hints;
 mod looks;
+mod making;
 mod maps;
 mod opening;
 mod standing;
 mod steps;
 
 pub use file::{AdfFile, OpenRefused};
+pub use making::make_fresh;
