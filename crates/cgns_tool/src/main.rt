@@ -3,12 +3,12 @@
 
 #![tactic(auto)]
 
-ghost use Rattle.plain_library.specs.Shelf.{IsShelf, IsWhole};
+ghost use Rattle.adf_library.specs.Shelf.{IsShelf, IsWhole};
 
+use adf_library::Shelf;
 use adf_model::{AdfError, Text};
 use cg_host::{HostDevice, HostSink, HostSource};
 use cg_io::Device;
-use plain_library::Shelf;
 use std::alloc::AllocError;
 use std::env;
 use std::io::ErrorKind;

@@ -77,7 +77,15 @@ const FIRST_CHILD: [(usize, &[u8]); 8] = [
     (1126, b"snTE\0\0"),
 ];
 
-static OF_INIT: [Run; 8] = [
+// The texts of a fresh file of the wide version.
+const FRESH_WIDE: [(usize, &[u8]); 4] = [
+    (0, b"@(#)ADF Database Version W02007>"),
+    (134, b"00000000010A00000000025F"),
+    (266, b"NoDeADF MotherNode"),
+    (604, b"TaiL"),
+];
+
+static OF_INIT: [Run; 11] = [
     Run {
         name: "an empty device gets the fresh file in one write",
         words: "init a.adf",
@@ -91,6 +99,51 @@ static OF_INIT: [Run; 8] = [
             writes: 1,
             length: 4096,
             texts: &FRESH,
+        },
+    },
+    Run {
+        name: "an empty device gets the fresh file of the wide version in one write",
+        words: "init-wide a.adf",
+        held: b"",
+        input: b"",
+        fault: Fault::Nothing,
+        status: Status::Done,
+        printed: b"ok 607\n",
+        left: Left {
+            is_read: true,
+            writes: 1,
+            length: 4096,
+            texts: &FRESH_WIDE,
+        },
+    },
+    Run {
+        name: "a device of three bytes is refused the wide version and stays",
+        words: "init-wide a.adf",
+        held: b"xyz",
+        input: b"",
+        fault: Fault::Nothing,
+        status: Status::No,
+        printed: b"E25 NotEmpty\n",
+        left: Left {
+            is_read: true,
+            writes: 0,
+            length: 3,
+            texts: &[(0, b"xyz")],
+        },
+    },
+    Run {
+        name: "a failed write of the wide version",
+        words: "init-wide a.adf",
+        held: b"",
+        input: b"",
+        fault: Fault::Write(1, 0),
+        status: Status::DeviceFault,
+        printed: b"E03 WriteFault\n",
+        left: Left {
+            is_read: true,
+            writes: 1,
+            length: 0,
+            texts: &[],
         },
     },
     Run {

@@ -1,11 +1,11 @@
 //! One run of the tool on the device `a.adf`, of whose calls one may fail.
 
-ghost use Rattle.plain_library.specs.Shelf.{IsShelf, IsWhole};
+ghost use Rattle.adf_library.specs.Shelf.{IsShelf, IsWhole};
 ghost use Rattle.std.specs.Prelude.{IfOk};
 
 use crate::fixtures::{device_of, source_of, stands, text_of, words_of};
+use adf_library::Shelf;
 use cg_io::{MemoryDevice, MemorySink, MemorySource};
-use plain_library::Shelf;
 use std::alloc::Global;
 use std::test::Fail;
 use tool_commands::{Status, run_on};

@@ -2,12 +2,12 @@
 
 ghost use Rattle.std.specs.Prelude.{IfOk};
 ghost use Rattle.cg_io.specs.Memory.{device_of};
-ghost use Rattle.plain_library.specs.Library.{IsReady};
+ghost use Rattle.adf_library.specs.Library.{IsLibrary};
 
 use crate::fixtures::source_of;
+use adf_library::{Library, Shelf};
 use call_script::laws as line_laws;
 use cg_io::{MemoryDevice, MemorySink, MemorySource};
-use plain_library::{Library, Shelf};
 use session::{Ended, Found, LineReader, Stopped, laws, run_session};
 use std::alloc::Global;
 use std::test::Fail;
@@ -49,7 +49,7 @@ static CASES: [Case; 10] = [
         failing_take: None,
         failing_put: None,
         ended: Ended::Done,
-        printed: b"E30 Syntax\nE30 Syntax\nE30 Syntax\nE30 Syntax\nE30 Syntax\n",
+        printed: b"E06 NoSuchFile\nE06 NoSuchFile\nE06 NoSuchFile\nE06 NoSuchFile at 0\nE06 NoSuchFile at 0\n",
     },
     Case {
         lines: b"open 0 new 16\nedit create 0.0 A %\n\nchildren 0.0\nclose 0",
@@ -97,7 +97,7 @@ static CASES: [Case; 10] = [
 
 // The files of an empty shelf.
 fn no_files(alloc: Global) -> Result<Library<MemoryDevice>, Fail>
-    ensures { IfOk result (IsReady device_of) }
+    ensures { IfOk result (IsLibrary device_of) }
 {
     match Library::new(alloc, Shelf::new(alloc)) {
         Ok(library) => Ok(library),

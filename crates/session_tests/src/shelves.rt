@@ -1,11 +1,11 @@
 //! Names and numbers of a shelf.
 
-ghost use Rattle.plain_library.specs.Shelf.{IsShelf};
+ghost use Rattle.adf_library.specs.Shelf.{IsShelf};
 
 use crate::fixtures::{device_of, text_of};
+use adf_library::Shelf;
 use adf_model::AdfError;
 use cg_io::MemoryDevice;
-use plain_library::Shelf;
 use std::alloc::Global;
 use std::test::Fail;
 

@@ -1,20 +1,22 @@
 //! Words that are not right touch nothing, and a command touches its own device alone.
 
-ghost use Rattle.plain_library.specs.Shelf.{IsShelf, IsWhole};
+ghost use Rattle.adf_library.specs.Shelf.{IsShelf, IsWhole};
 ghost use Rattle.std.specs.Prelude.{IfOk, OnOk};
 
 use crate::fixtures::{device_of, source_of, text_of, words_of};
 use crate::runs::{Fault, Left, Run, wrong_part};
+use adf_library::Shelf;
 use adf_model::{AdfError, Text};
 use cg_io::{Device, MemorySink};
-use plain_library::Shelf;
 use std::alloc::Global;
 use std::test::Fail;
 use tool_commands::{Status, run_tool};
 
-static WRONG_WORDS: [&str; 15] = [
+static WRONG_WORDS: [&str; 17] = [
     "",
     "init",
+    "init-wide",
+    "init-wide a.adf a.adf",
     "init b.adf",
     "init ",
     "init -a",
@@ -116,6 +118,7 @@ fn leaves_the_other(alloc: Global, line: &str, input: &[u8], printed: &[u8]) -> 
 fn a_command_leaves_the_other_devices_of_the_shelf(rt: HostRuntime) -> Result<(), Fail> {
     for (line, input, printed) in [
         ("init b.adf", b"".as_slice(), b"ok 511\n".as_slice()),
+        ("init-wide b.adf", b"", b"ok 607\n"),
         (
             "session b.adf",
             b"open 1 new 1\nedit create 1.0 X Lab\nchildren 1.0\nchildren 0.0\n",

@@ -4,7 +4,7 @@ use Rattle.std.specs.List.{position_from}
 use Rattle.std.specs.Str.{bytes_eq}
 use Rattle.std.proofs.lemmas.Slice.Eq.{bytes_eq-Decides}
 use Rattle.adf_model.proofs.Basics.{and_parts, not_true, same_Some}
-use Rattle.plain_library.specs.Shelf.{SlotState, has_name, is_named, number_in}
+use Rattle.adf_library.specs.Shelf.{SlotState, has_name, is_named, number_in}
 use Rattle.tool_commands.specs.Tool.{file_number, is_file_word}
 
 -- a position is none before the first

@@ -1,15 +1,23 @@
 -- What a session leaves of a shelf.
-use Rattle.std.proofs.Common.{◌≡◌, ℕ, ◌≤◌, zero, suc, List, [], ◌∷◌, length, map, refl, sym, ◌∙◌, ap, subst}
-use Rattle.std.specs.Prelude.{Option}
+use Rattle.std.proofs.Common.{◌≡◌, ℕ, ◌≤◌, zero, suc, Bool, true, false, List, [], ◌∷◌, length, map, refl, sym, ◌∙◌, ap, subst}
+use Rattle.std.specs.Prelude.{Option, Some, None, if◌then◌else◌}
 use Rattle.std.specs.Io.KnownBytes.{Consumes, IsAtEnd}
-use Rattle.adf_model.specs.Slots.{Files, Device, Devices, device_at, names_there, slot_at, name_there}
+use Rattle.adf_model.specs.Slots.{Files, Device, Devices, Open, device_at, is_gone, names_there, slot_at, name_there}
+use Rattle.adf_model.specs.Slots as model
 use Rattle.adf_model.specs.Steps.{NoneFell, NoCountFell, AllLaidOut, IsLaidOutAt}
 use Rattle.cg_io.specs.Cause.{Rose}
-use Rattle.plain_library.specs.Library.{entry_slot, shelf_file, shelf_files, shelf_devices, standing_name, unplaced}
-use Rattle.plain_library.specs.Shelf.{PlaceState, SlotState}
-use Rattle.plain_library.specs.Shelf.PlaceState.{There, Taken, Gone}
+use Rattle.cg_io.specs.Device.{DeviceState}
+use Rattle.adf_library.specs.Library.{entry_slot, shelf_file, shelf_files, shelf_devices, standing_name, unplaced}
+use Rattle.adf_library.specs.Places.{in_work, file_of, slot_in}
+use Rattle.adf_library.specs.Shelf.{PlaceState, SlotState, place_of, slot_of}
+use Rattle.adf_library.specs.Shelf.PlaceState.{There, Taken, Gone}
+use Rattle.adf_library.specs.declared.places.Place.{Place}
+use Rattle.adf_library.specs.declared.places.Place.TheVariants as place
+use Rattle.adf_library.specs.declared.places.Slot.{Slot}
+use Rattle.adf_tree.specs.Files.{state_of}
 use Rattle.session.proofs.Faults.{ran_counts, ran_laid_out, ran_names}
 use Rattle.session.specs.Session.{HasRun, IsBounded}
+use Rattle.session.specs.Turns.{calls_of, names_behind}
 use Rattle.session.specs.declared.session.Ended.{Ended}
 use Rattle.session.specs.declared.session.Ended.TheVariants as ended
 use Rattle.tool_commands.specs.Tool.{Streams, SessionEnds, scene}
@@ -34,6 +42,24 @@ entry_names (slot ∷ slots) = ap (λ (l : List (Option (List ℕ))). name_there
     by_place (There device) = refl
     by_place Taken = refl
     by_place (Gone last) = refl
+
+-- the names of the files of slots are those under which devices stand
+pub slot_names : {D : Type 0} (state : D → DeviceState) (slots : List (Slot D)) → map standing_name (map (slot_of state) slots) ≡ names_there (map (file_of in_work state) slots)
+slot_names state [] = refl
+slot_names state (x ∷ xs) =
+    ap (λ (o : Option (List ℕ)). o ∷ map standing_name (map (slot_of state) xs)) (by_place x.place)
+    ∙ ap (λ (l : List (Option (List ℕ))). name_there (file_of in_work state x) ∷ l) (slot_names state xs)
+  where
+    never_gone : (broken : Bool) (opened : Open) → is_gone (if broken then model.Slot.Broken else model.Slot.Live opened) ≡ false
+    never_gone true opened = refl
+    never_gone false opened = refl
+
+    by_place : (there : Place _) → standing_name (record { name = x.name; place = place_of state there }) ≡ name_there (record { name = x.name; slot = slot_in in_work state there })
+    by_place place.Taken = refl
+    by_place (place.Closed device) = refl
+    by_place (place.Saved device left) = refl
+    by_place (place.Open file) = let now = state_of state file in sym (ap (λ (gone : Bool). if gone then None else Some x.name) (never_gone now.broken (in_work now)))
+    by_place (place.Gone husk) = refl
 
 -- at first no tree is known
 laid_at_entry : (slots : List SlotState) (devices : Devices) → AllLaidOut (shelf_files slots) devices
@@ -62,7 +88,7 @@ ended_so how old new files left devices now_devices before now files_are devices
   run = run;
   laid_out = ran_laid_out (shelf_files old) left (shelf_devices old) now_devices run.turns run.ran (laid_at_entry old (shelf_devices old));
   left = left_are;
-  names = names_are ∙ ran_names (shelf_files old) left (shelf_devices old) now_devices run.turns run.ran ∙ entry_names old;
+  names = names_are ∙ ran_names (shelf_files old) left (shelf_devices old) now_devices run.turns run.ran ∙ ap (names_behind (calls_of run.turns)) (entry_names old);
   counts = counts_left (shelf_devices old) now_devices (shelf_devices new) left_are (ran_counts (shelf_files old) left (shelf_devices old) now_devices run.turns run.ran);
   bound = bound;
   end = end;

@@ -4,14 +4,15 @@ use Rattle.std.specs.Option.{option_map, option_and_then}
 use Rattle.std.proofs.lemmas.Option.{slice_get-map}
 use Rattle.std.specs.Prelude.{IsSome}
 use Rattle.adf_model.proofs.Basics.{not_true, same_Some}
+use Rattle.adf_tree.specs.Files.{device_of}
 use Rattle.cg_io.specs.Device.{DeviceState}
-use Rattle.plain_library.specs.declared.shelf.Place as code
-use Rattle.plain_library.specs.declared.shelf.Place.TheVariants as place
-use Rattle.plain_library.specs.declared.shelf.Shelf.{Shelf}
-use Rattle.plain_library.specs.declared.shelf.Slot.{Slot}
-use Rattle.plain_library.specs.Shelf.{PlaceState, SlotState, place_of, slot_of, slots_of, device_in_place, device_at, changed_at, with_device, taken, IsTaken, IsNotTaken, IsWhole, IsWholeBut}
-use Rattle.plain_library.specs.Shelf.PlaceState.{There, Taken}
-use Rattle.plain_library.proofs.ShelfSlots.{taken_and_put_back, all_at}
+use Rattle.adf_library.specs.declared.places.Place as code
+use Rattle.adf_library.specs.declared.places.Place.TheVariants as place
+use Rattle.adf_library.specs.declared.shelf.Shelf.{Shelf}
+use Rattle.adf_library.specs.declared.places.Slot.{Slot}
+use Rattle.adf_library.specs.Shelf.{PlaceState, SlotState, place_of, slot_of, slots_of, device_in_place, device_at, changed_at, with_device, taken, IsTaken, IsNotTaken, IsWhole, IsWholeBut}
+use Rattle.adf_library.specs.Shelf.PlaceState.{There, Taken}
+use Rattle.adf_library.proofs.ShelfSlots.{taken_and_put_back, all_at}
 
 -- ---- slots
 
@@ -82,13 +83,17 @@ free_elsewhere change slots n k apart free s e = free s (sym (elsewhere change s
 
 module _ {D : Type 0} (state : D → DeviceState) where
   not_taken_free : (there : code.Place D) → IsNotTaken there → place_of state there ≢ Taken
-  not_taken_free (place.There device) free is = there_free (state device) is
   not_taken_free place.Taken free is = absurd free
+  not_taken_free (place.Closed device) free is = there_free (state device) is
+  not_taken_free (place.Saved device left) free is = there_free (state device) is
+  not_taken_free (place.Open file) free is = there_free (device_of state file) is
   not_taken_free (place.Gone husk) free is = absurd cc
 
   free_not_taken : (there : code.Place D) → place_of state there ≢ Taken → IsNotTaken there
-  free_not_taken (place.There device) free = tt
   free_not_taken place.Taken free = absurd (free refl)
+  free_not_taken (place.Closed device) free = tt
+  free_not_taken (place.Saved device left) free = tt
+  free_not_taken (place.Open file) free = tt
   free_not_taken (place.Gone husk) free = tt
 
   whole_free : (shelf : Shelf D) → IsWhole shelf → (k : ℕ) → IsFree (slots_of state shelf) k

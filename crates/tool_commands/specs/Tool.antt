@@ -1,5 +1,5 @@
 -- What the commands print, how they end, and what they leave.
-use Rattle.std.specs.Prelude.{◌≡◌, ◌≢◌, ℕ, ◌≤◌, ⊤, Bool, false, List, [], ◌∷◌, length, map, codes, Some, None, Option, IsSome, is_some, take, if◌then◌else◌, ◌&&◌, not, Result, Ok, Err}
+use Rattle.std.specs.Prelude.{◌≡◌, ◌≢◌, ℕ, ◌≤◌, ⊤, Bool, true, false, List, [], ◌∷◌, length, map, codes, Some, None, Option, IsSome, is_some, take, if◌then◌else◌, ◌&&◌, not, Result, Ok, Err}
 use Rattle.std.specs.List.{list_all}
 use Rattle.std.specs.Str.{bytes_eq}
 use Rattle.std.specs.Io.KnownBytes.{Consumes, IsAtEnd}
@@ -11,14 +11,15 @@ use Rattle.adf_model.specs.Counts.{Rose, OnlyReads}
 use Rattle.adf_model.specs.Steps.{AllLaidOut, NoCountFell}
 use Rattle.adf_repack.specs.declared.whole.Target.{Target}
 use Rattle.adf_repack.specs.declared.whole.Target.TheVariants as target
+use Rattle.adf_tree.specs.Making.{MakesFresh}
 use Rattle.cg_io.specs.Device.{DeviceState}
-use Rattle.plain_library.specs.Fresh.{MakesFresh}
-use Rattle.plain_library.specs.Library.{shelf_files, shelf_devices, standing_name, unplaced}
-use Rattle.plain_library.specs.Shelf.{SlotState, number_in, device_at, with_device}
+use Rattle.adf_library.specs.Library.{shelf_files, shelf_devices, standing_name, unplaced}
+use Rattle.adf_library.specs.Shelf.{SlotState, number_in, device_at, with_device}
 use Rattle.layout_report.specs.Reports.{Says, Linted, Mapped}
 use Rattle.layout_report.specs.declared.Report.{Report}
 use Rattle.layout_report.specs.declared.Report.TheVariants as report
 use Rattle.session.specs.Session.{Scene, HasRun, IsBounded}
+use Rattle.session.specs.Turns.{calls_of, names_behind}
 use Rattle.session.specs.declared.session.Ended.{Ended}
 use Rattle.session.specs.declared.session.Ended.TheVariants as ended
 use Rattle.tool_commands.specs.Copies.{CopyEnds}
@@ -53,7 +54,8 @@ file_number slots word = if is_file_word word then number_in slots word else Non
 -- the command over one file that has this name, on the device of this number
 abbrev pub command_on : List ℕ → ℕ → Wanted
 command_on command number =
-    if bytes_eq command (codes "init") then asks.Init number else
+    if bytes_eq command (codes "init") then asks.Init false number else
+    if bytes_eq command (codes "init-wide") then asks.Init true number else
     if bytes_eq command (codes "lint") then asks.Lint number else
     if bytes_eq command (codes "map") then asks.Map number else asks.Nothing
 
@@ -89,30 +91,30 @@ wanted words slots = if is_session words slots then asks.Session else files_want
 -- under a number that is asked for a device stands, under two numbers two devices
 abbrev pub IsOnShelf : Wanted → List SlotState → Type 0
 IsOnShelf (asks.Copy version from to) slots = (from ≢ to) × IsSome (device_at slots from) × IsSome (device_at slots to)
-IsOnShelf (asks.Init number) slots = IsSome (device_at slots number)
+IsOnShelf (asks.Init wide number) slots = IsSome (device_at slots number)
 IsOnShelf (asks.Lint number) slots = IsSome (device_at slots number)
 IsOnShelf (asks.Map number) slots = IsSome (device_at slots number)
 IsOnShelf other slots = ⊤
 
 -- ---- init
 
--- the line that `init` prints
-abbrev pub init_line : Result Unit AdfError → List ℕ
-init_line (Ok done) = line (codes "ok 511")
-init_line (Err error.NotEmpty) = line (codes "E25 NotEmpty")
-init_line (Err error.ReadFault) = line (codes "E02 ReadFault")
-init_line (Err other) = line (codes "E03 WriteFault")
+-- the line that `init` and `init-wide` print: the last byte of the fresh file, or the refusal
+abbrev pub init_line : Bool → Result Unit AdfError → List ℕ
+init_line wide (Ok done) = line (if wide then codes "ok 607" else codes "ok 511")
+init_line wide (Err error.NotEmpty) = line (codes "E25 NotEmpty")
+init_line wide (Err error.ReadFault) = line (codes "E02 ReadFault")
+init_line wide (Err other) = line (codes "E03 WriteFault")
 
--- and the status with which it ends
+-- and the status with which they end
 abbrev pub init_status : Result Unit AdfError → Status
 init_status (Ok done) = status.Done
 init_status (Err error.NotEmpty) = status.No
 init_status (Err other) = status.DeviceFault
 
--- what `init` did to a device, of which no count fell, and to the sink, by how it ended
-abbrev pub InitEnds : Status → DeviceState → DeviceState → Option (List ℕ) → Option (List ℕ) → ℕ → ℕ → Type 0
-InitEnds result old new taken now faults later =
-    (made : Result Unit AdfError) × MakesFresh made old new × device.NoCountFell old new × EndsWith (init_status made) (init_line made) result taken now faults later
+-- what the making of a fresh file of this version did to a device, of which no count fell, and to the sink, by how it ended
+abbrev pub InitEnds : Bool → Status → DeviceState → DeviceState → Option (List ℕ) → Option (List ℕ) → ℕ → ℕ → Type 0
+InitEnds wide result old new taken now faults later =
+    (made : Result Unit AdfError) × MakesFresh wide made old new × device.NoCountFell old new × EndsWith (init_status made) (init_line wide made) result taken now faults later
 
 -- ---- reports on one file
 
@@ -177,14 +179,14 @@ session_status ended.TooLong = status.TooLong
 -- It is a run over the lines of the input, and what is printed are the replies of that run: each line whose
 -- devices tell their bytes is a step of the abstract trees, and each other one has its cause. Each file that is
 -- open at the end, or was closed, is a layout of its tree where its device tells. All files are closed then,
--- and the shelf has the devices as the run left them.
+-- and the shelf has the devices as the run left them, under the names that no line discarded.
 pub record SessionEnds (how : Ended) (old new : List SlotState) (before now : Streams) : Type 0 where
   pub files : Files
   pub devices : Devices
   pub run : HasRun how (scene (shelf_files old) (shelf_devices old) before) (scene files devices now)
   pub laid_out : AllLaidOut files devices
   pub left : shelf_devices new ≡ map unplaced devices
-  pub names : map standing_name new ≡ map standing_name old
+  pub names : map standing_name new ≡ names_behind (calls_of run.turns) (map standing_name old)
   pub counts : NoCountFell (shelf_devices old) (shelf_devices new)
   pub bound : (bytes : List ℕ) × Consumes before.left now.left bytes × IsBounded how (length bytes)
   pub end : how ≡ ended.Done → IsAtEnd now.left
@@ -198,8 +200,8 @@ pub record SessionEnds (how : Ended) (old new : List SlotState) (before now : St
 -- how a run ends, and what it leaves on the shelf: without right words the usage line; else the fresh file or a report on the device of that number alone, a copy between the devices of two numbers, or a session over all
 abbrev pub RunEnds : Wanted → Status → List SlotState → List SlotState → Streams → Streams → Type 0
 RunEnds asks.Nothing result old new before now = (new ≡ old) × EndsWith status.Usage usage result before.taken now.taken before.sink_faults now.sink_faults × InputStays before now
-RunEnds (asks.Init n) result old new before now =
-    OnDevice n (λ device after. InitEnds result device after before.taken now.taken before.sink_faults now.sink_faults) old new × InputStays before now
+RunEnds (asks.Init wide n) result old new before now =
+    OnDevice n (λ device after. InitEnds wide result device after before.taken now.taken before.sink_faults now.sink_faults) old new × InputStays before now
 RunEnds (asks.Lint n) result old new before now =
     OnDevice n (λ device after. Reports Linted result device after before.taken now.taken before.sink_faults now.sink_faults) old new × InputStays before now
 RunEnds (asks.Map n) result old new before now =

@@ -5,26 +5,28 @@ ghost use Rattle.tool_commands.specs.Copies.{CopyEnds};
 ghost use Rattle.tool_commands.specs.Printed.{EndsWith};
 ghost use Rattle.tool_commands.specs.Tool.{InitEnds, OnDevice, OnDevices, Reports, RunEnds, SessionEnds, init_line, init_status, report_status, session_status, usage, wanted};
 ghost use Rattle.layout_report.specs.Reports.{Linted, Mapped};
-ghost use Rattle.plain_library.specs.Shelf.{slots_of, device_at, IsShelf, IsWhole};
+ghost use Rattle.adf_library.specs.Shelf.{slots_of, device_at, IsShelf, IsWhole};
 
 use crate::copies::{Copied, copy_file, tell_copy};
 use crate::printing::ended;
 use crate::status::Status;
 use crate::words::{Wanted, read_words};
+use adf_library::{Library, Shelf};
 use adf_model::AdfError;
 use adf_repack::Target;
+use adf_tree::make_fresh;
 use cg_io::{Device, Sink, Source};
 use layout_report::{Report, lint_file, map_file};
-use plain_library::{Library, Shelf, make_fresh};
 use session::{Ended, run_session};
 use std::alloc::Global;
 use std::mem::replace;
 
-// The line that `init` prints.
-fn init_text(made: &Result<(), AdfError>) -> &'static [u8]
-    ensures { result.now ≡ init_line made.now }
+// The line that the making of a fresh file of a version prints.
+fn init_text(wide: bool, made: &Result<(), AdfError>) -> &'static [u8]
+    ensures { result.now ≡ init_line wide made.now }
 {
     match made {
+        Ok(()) if wide => b"ok 607\n",
         Ok(()) => b"ok 511\n",
         Err(AdfError::NotEmpty) => b"E25 NotEmpty\n",
         Err(AdfError::ReadFault) => b"E02 ReadFault\n",
@@ -43,24 +45,30 @@ fn init_status_of(made: &Result<(), AdfError>) -> Status
     }
 }
 
-// Makes the fresh file on a device, and says so.
-fn init<D: Device, O: Sink>(device: &mut D, output: &mut O) -> Status
-    ensures { InitEnds result (D.state device.old) (D.state device.new) (O.taken output.old)
+// Makes the fresh file of a version on a device, and says so.
+fn init<D: Device, O: Sink>(wide: bool, device: &mut D, output: &mut O) -> Status
+    ensures { InitEnds wide result (D.state device.old) (D.state device.new) (O.taken output.old)
         (O.taken output.new) (O.faults output.old) (O.faults output.new) }
 {
-    let made = make_fresh(device);
-    ended(output, init_text(&made), init_status_of(&made))
+    let made = make_fresh(device, wide);
+    ended(output, init_text(wide, &made), init_status_of(&made))
 }
 
 // The same on the device of a number.
-#[tactic(auto, using(plain_library::proofs::ShelfSlots::taken_and_put_back))]
-fn init_on<D: Device, O: Sink>(number: u32, shelf: &mut Shelf<D>, output: &mut O) -> Status
+#[tactic(auto, using(adf_library::proofs::ShelfSlots::taken_and_put_back))]
+fn init_on<D: Device, O: Sink>(
+    wide: bool,
+    number: u32,
+    shelf: &mut Shelf<D>,
+    output: &mut O,
+) -> Status
     requires whole { IsWhole shelf.old }
     requires shelf { IsShelf shelf.old }
     requires there { IsSome (device_at (slots_of D.state shelf.old) number) }
     ensures init { OnDevice number (λ device after.
-        InitEnds result device after (O.taken output.old) (O.taken output.new) (O.faults output.old)
-        (O.faults output.new)) (slots_of D.state shelf.old) (slots_of D.state shelf.new) }
+        InitEnds wide result device after (O.taken output.old) (O.taken output.new)
+        (O.faults output.old) (O.faults output.new)) (slots_of D.state shelf.old)
+        (slots_of D.state shelf.new) }
     ensures whole { IsWhole shelf.new }
     ensures shelf { IsShelf shelf.new }
 {
@@ -68,7 +76,7 @@ fn init_on<D: Device, O: Sink>(number: u32, shelf: &mut Shelf<D>, output: &mut O
         unreachable!()
     };
     let mut device = taken;
-    let status = init(&mut device, output);
+    let status = init(wide, &mut device, output);
     shelf.put_back(number, device);
     status
 }
@@ -87,7 +95,7 @@ fn report_status_of(how: Report) -> Status
 }
 
 // The linter's verdict on the file of a device.
-#[tactic(auto, using(plain_library::proofs::ShelfSlots::taken_and_put_back))]
+#[tactic(auto, using(adf_library::proofs::ShelfSlots::taken_and_put_back))]
 fn lint_on<D: Device, O: Sink>(
     alloc: Global,
     number: u32,
@@ -113,7 +121,7 @@ fn lint_on<D: Device, O: Sink>(
 }
 
 // The map of the file of a device.
-#[tactic(auto, using(plain_library::proofs::ShelfSlots::taken_and_put_back))]
+#[tactic(auto, using(adf_library::proofs::ShelfSlots::taken_and_put_back))]
 fn map_on<D: Device, O: Sink>(
     alloc: Global,
     number: u32,
@@ -260,7 +268,7 @@ pub fn run_on<D: Device, I: Source, O: Sink>(
 {
     match read_words(words, shelf) {
         Wanted::Nothing => say_usage(output),
-        Wanted::Init(number) => init_on(number, shelf, output),
+        Wanted::Init { wide, number } => init_on(wide, number, shelf, output),
         Wanted::Lint(number) => lint_on(alloc, number, shelf, output),
         Wanted::Map(number) => map_on(alloc, number, shelf, output),
         Wanted::Copy { target, from, to } => copy_on(alloc, target, from, to, shelf, output),

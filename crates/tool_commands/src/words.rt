@@ -3,19 +3,19 @@
 ghost use Rattle.std.specs.Prelude.{◌≡◌, map, string_bytes, IfSome, IsSome};
 ghost use Rattle.std.specs.List.{list_all};
 ghost use Rattle.tool_commands.specs.Tool.{IsOnShelf, command_on, file_number, is_file_word, is_session, names_device, copy_wanted, files_wanted, target_named, wanted};
-ghost use Rattle.plain_library.specs.Shelf.{slots_of, device_at, IsShelf, IsWhole};
+ghost use Rattle.adf_library.specs.Shelf.{slots_of, device_at, IsShelf, IsWhole};
 
+use adf_library::Shelf;
 use adf_repack::Target;
 use cg_io::Device;
-use plain_library::Shelf;
 
 /// What the words of the command line ask for.
 #[derive(Clone, Copy)]
 pub enum Wanted {
     /// They are not right.
     Nothing,
-    /// The fresh file on the device of this number.
-    Init(u32),
+    /// The fresh file of a version on the device of this number.
+    Init { wide: bool, number: u32 },
     /// The linter's verdict on that device's file.
     Lint(u32),
     /// The extents of that device's file.
@@ -51,7 +51,12 @@ fn command_on(command: &str, number: u32) -> Wanted
     ensures { result ≡ command_on command.now number }
 {
     if command == "init" {
-        Wanted::Init(number)
+        Wanted::Init {
+            wide: false,
+            number,
+        }
+    } else if command == "init-wide" {
+        Wanted::Init { wide: true, number }
     } else if command == "lint" {
         Wanted::Lint(number)
     } else if command == "map" {

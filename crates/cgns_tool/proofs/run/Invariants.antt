@@ -1,4 +1,4 @@
-use Rattle.plain_library.specs.Shelf.{IsWhole, IsShelf}
+use Rattle.adf_library.specs.Shelf.{IsWhole, IsShelf}
 use Rattle.cgns_tool.proofs.run.Given as goal
 
 -- no device is taken yet, and each number fits its type

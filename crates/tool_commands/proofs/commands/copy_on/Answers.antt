@@ -1,5 +1,5 @@
 use Rattle.std.proofs.Common.{refl, sym, ◌∙◌, ap, List, Some}
-use Rattle.plain_library.specs.Shelf.{SlotState, There, slots_of, changed_at, with_device, taken}
+use Rattle.adf_library.specs.Shelf.{SlotState, There, slots_of, changed_at, with_device, taken}
 use Rattle.tool_commands.proofs.TwoDevices.{still_taken, second_there, second_is_some, both_put_back, whole_but_second}
 use Rattle.tool_commands.proofs.commands.copy_on.Goals as goal
 

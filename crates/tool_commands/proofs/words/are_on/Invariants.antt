@@ -1,7 +1,7 @@
 use Rattle.std.proofs.Common.{◌≡◌, map, drop}
 use Rattle.std.specs.Prelude.{string_bytes}
 use Rattle.std.specs.List.{list_all}
-use Rattle.plain_library.specs.Shelf.{slots_of}
+use Rattle.adf_library.specs.Shelf.{slots_of}
 use Rattle.tool_commands.specs.Tool.{names_device}
 use Rattle.tool_commands.proofs.words.are_on.Given as goal
 

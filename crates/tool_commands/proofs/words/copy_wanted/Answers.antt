@@ -1,5 +1,5 @@
 use Rattle.std.proofs.Common.{sym, ◌∙◌}
-use Rattle.plain_library.specs.Shelf.{slots_of}
+use Rattle.adf_library.specs.Shelf.{slots_of}
 use Rattle.tool_commands.proofs.NumberLaws.{apart_numbers}
 use Rattle.tool_commands.proofs.words.copy_wanted.Goals as goal
 

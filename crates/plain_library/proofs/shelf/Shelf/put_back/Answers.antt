@@ -1,8 +1,0 @@
-use Rattle.std.proofs.Common.{refl}
-use Rattle.plain_library.specs.Shelf.PlaceState.{There}
-use Rattle.plain_library.specs.declared.shelf.Place.TheVariants as place
-use Rattle.plain_library.proofs.ShelfSlots.{put_slot, taken_within}
-use Rattle.plain_library.proofs.shelf.Shelf.put_back.Goals as goal
-
-pub returns-clause-back : goal.returns-clause-back
-returns-clause-back g c = put_slot _ (λ was. There (g.D.Device.state c.args.device)) c.args.self.now.slots.items c.args.number c.index_mut.result.now (place.There c.args.device) (taken_within _ _ _ c.requires.taken) c.index_mut.ensures.value refl
