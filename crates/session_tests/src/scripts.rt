@@ -26,7 +26,7 @@ struct Script {
     steps: &'static [Step],
 }
 
-static LINKED: [Step; 1] = [Step {
+const LINKED: [Step; 1] = [Step {
     words: "session a.adf b.adf",
     input: b"open 0 new 16\nopen 1 new 16\nedit create 1.0 X Lab\nedit link 0.0 K b.adf /X\nlabel 0.1\n\
 target 0.1\nlink 0.1\nclose 1\nlabel 0.1\nopen 1 rw 16\nlabel 0.1\nedit link 0.0 S % /S\nlabel 0.2\n\
@@ -35,7 +35,7 @@ edit delete 0.1\nfind 1.0 /X\nedit create 0.0 A % ; create 1.0 B %\n",
 E21 LinkChain\nok\nok 1.1\nE32 OtherFile at 1\n",
 }];
 
-static DISCARDED: [Step; 1] = [Step {
+const DISCARDED: [Step; 1] = [Step {
     words: "session a.adf b.adf",
     input: b"open 0 new 16\nopen 1 new 16\nedit create 1.0 X Lab\nedit link 0.0 K b.adf /X\nlabel 0.1\n\
 discard 1\nclose 1\ndiscard 1\nlabel 0.1\nopen 1 rw 16\ndiscard 1\nlink 0.1\n",
@@ -43,7 +43,7 @@ discard 1\nclose 1\ndiscard 1\nlabel 0.1\nopen 1 rw 16\ndiscard 1\nlink 0.1\n",
 E06 NoSuchFile\nok b.adf /X\n",
 }];
 
-static REFUSED_GROUP: [Step; 2] = [
+const REFUSED_GROUP: [Step; 2] = [
     Step {
         words: "session a.adf",
         input: b"open 0 new 16\nedit create 0.0 A % ; create 0.0 B % ; create 0.0 A %\nnext 0.0\nchildren 0.0\n",
@@ -57,7 +57,7 @@ static REFUSED_GROUP: [Step; 2] = [
 ];
 
 // Nodes are numbered anew when their file is opened again.
-static NUMBERED_ANEW: [Step; 2] = [
+const NUMBERED_ANEW: [Step; 2] = [
     Step {
         words: "session a.adf",
         input: b"open 0 new 16\nedit create 0.0 A % ; create 0.0 B % ; create 0.0 C % ; create 0.1 D %\n\
@@ -71,7 +71,7 @@ edit delete 0.2\nedit move 0.3 0.1\nlabel 0.2\nclose 0\nopen 0 rw 16\nchildren 0
     },
 ];
 
-static DATA: [Step; 1] = [Step {
+const DATA: [Step; 1] = [Step {
     words: "session a.adf",
     input: b"open 0 new 16\nedit create 0.0 A %\nedit dims 0.1 C1 6 ; put 0.1 616263646566\nedit dims 0.1 C1 2\n\
 read 0.1\nedit dims 0.1 C1 6\nread 0.1\nedit dims 0.1 C1 3,2 ; put 0.1 616263646566\nshape 0.1\n\
@@ -81,7 +81,7 @@ close 0\nopen 0 ro 16\nread 0.1\n",
 E15 NoData\nok\nok\nok\nok 00787900\n",
 }];
 
-static VERSIONS: [Step; 4] = [
+const VERSIONS: [Step; 4] = [
     Step {
         words: "init-wide a.adf",
         input: b"",
@@ -107,7 +107,7 @@ E14 BadShape at 0\nE26 TooLarge at 0\n",
     },
 ];
 
-static BROKEN: [Step; 1] = [Step {
+const BROKEN: [Step; 1] = [Step {
     words: "session a.adf",
     input: b"open 0 new 16\nedit create 0.0 A %\nedit create 0.0 B %\nname 0.0\nedit create 0.0 B %\nclose 0\n\
 open 0 rw 16\nchildren 0.0\n",
