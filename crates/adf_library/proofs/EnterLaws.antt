@@ -24,7 +24,7 @@ or_false : (b : Bool) → (b || false) ≡ b
 or_false true = refl
 or_false false = refl
 
-abbrev four : Bool → Bool → Bool → Bool → List Test
+abbrev pub four : Bool → Bool → Bool → Bool → List Test
 four gone shut broken dead = (gone, NoSuchFile) ∷ (shut, NotOpen) ∷ (broken, AdfError.Broken) ∷ (dead, NoSuchNode) ∷ []
 
 -- the tests of one node
@@ -37,7 +37,7 @@ same_tests files node =
     ∙ ap (λ c. four (is_gone own) (not (is_open own)) c (dead || false)) (or_false (is_broken own))
     ∙ ap (λ d. four (is_gone own) (not (is_open own)) (is_broken own) d) (or_false dead)
 
-abbrev entered : List Test → Result Unit AdfError
+abbrev pub entered : List Test → Result Unit AdfError
 entered tests = checked tests (Ok tt)
 
 pub enters_there : (files : Files) (node : NodeId) (own : model.Slot) (result : Result Unit AdfError) → slot_at files node.file ≡ own → result ≡ entered (entry_tests own node.serial) → result ≡ entered (tests_at_entry files (node ∷ []))

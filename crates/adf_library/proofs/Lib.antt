@@ -12,3 +12,8 @@ pub mod ClosedPlace
 pub mod LibrarySteps
 pub mod EnterLaws
 pub mod ShelfLaws
+pub mod EditAmong
+pub mod EntryLaws
+pub mod LaidLaws
+pub mod FileEdits
+pub mod EditedPlace

@@ -24,7 +24,7 @@ use Rattle.cg_io.specs.Device.{DeviceState}
 
 module _ (files : Files) (before now : Devices) (n : ℕ) (file : File) (old new : Device)
     (own : slot_at files n ≡ file.slot) (was : device_at before n ≡ old) (is : device_at now n ≡ new) where
-  fault_among : HasFileFault (file ∷ []) 0 (old ∷ []) (new ∷ []) → HasFileFault files n before now
+  pub fault_among : HasFileFault (file ∷ []) 0 (old ∷ []) (new ∷ []) → HasFileFault files n before now
   fault_among h = rw (own, was, is) h
 
   pub look_among : (error : AdfError) → HasLookCause (file ∷ []) 0 (old ∷ []) (new ∷ []) error → HasLookCause files n before now error

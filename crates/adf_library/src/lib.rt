@@ -3,6 +3,9 @@
 
 #![tactic(auto)]
 
+mod calls;
+mod edits;
+mod entries;
 mod library;
 mod looks;
 mod openings;

@@ -5,14 +5,14 @@ ghost use Rattle.adf_library.specs.Library.{IsLibrary, IsIdle, devices_of, files
 ghost use Rattle.adf_library.specs.Shelf.{IsShelf, IsWhole, slot_of, slots_of};
 ghost use Rattle.adf_model.specs.Modes.{opening_of};
 ghost use Rattle.adf_model.specs.Runs.{Makes};
-ghost use Rattle.adf_model.specs.Steps.{Asked, Closed, Discarded, Opened};
+ghost use Rattle.adf_model.specs.Steps.{Asked, Changed, Closed, Discarded, Opened};
 
 use crate::openings::{close_place, discard_place, open_place};
 use crate::places::{Place, Slot};
 use crate::shelf::{Shelf, take_device};
 use crate::slots::Slots;
-use adf_follow::ask;
-use adf_model::{AdfError, Mode, Query, Reply};
+use adf_follow::{ask, edit_group};
+use adf_model::{AdfError, Edit, EditError, Mode, Query, Reply, Serials};
 use cg_io::Device;
 use std::alloc::Global;
 use std::mem::replace;
@@ -144,5 +144,18 @@ impl<D: Device> Library<D> {
             (Asked query.now result) (devices_of D.state self.new) (files_of D.state self.new) }
     {
         ask(self.alloc, &mut self.slots, query)
+    }
+
+    /// Does all edits of a group, in the file that its first edit names or reaches, and answers the nodes that were
+    /// made; or does none. A refusal names the edit, counted from 0, and leaves all files as they were; that of a
+    /// failed write, WriteFault, stands behind all edits, and the file is broken. No memory is taken once a byte is
+    /// written.
+    pub fn edit(&mut self, edits: &[Edit]) -> Result<Serials, EditError>
+        requires { IsLibrary D.state self.old }
+        ensures library { IsLibrary D.state self.new }
+        ensures makes { Makes (files_of D.state self.old) (devices_of D.state self.old)
+            (Changed edits.now result) (devices_of D.state self.new) (files_of D.state self.new) }
+    {
+        edit_group(self.alloc, &mut self.slots, edits)
     }
 }

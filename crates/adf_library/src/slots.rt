@@ -1,20 +1,37 @@
 //! The files of a library, as links and queries see them.
 
-ghost use Rattle.std.specs.Prelude.{◌≡◌, ◌<◌, ◌^◌, length, map, IfSome};
+ghost use Rattle.std.specs.Prelude.{◌≡◌, ◌<◌, ◌^◌, ◌∷◌, [], length, map, IfSome, Ok};
 ghost use Rattle.adf_library.specs.Library.{AreReady, are_ready, files_in_work, slots_devices, slots_files, slots_pending};
+ghost use Rattle.adf_model.specs.Calls.{tests_at_entry};
 ghost use Rattle.adf_model.specs.Slots.{number_of};
+ghost use Rattle.adf_model.specs.Tests.{checked};
 
+use crate::edits::{commit_in, step_in, undo_in};
+use crate::entries::first_of;
 use crate::looks::{answer_in, child_in, enter, open_number, text_in};
 use crate::places::Slot;
 use crate::shelf::place_in;
-use adf_follow::{AskedFiles, OpenFiles, asked_node};
-use adf_model::{AdfError, NodeId, Query, Reply, Text};
+use adf_follow::{AskedFiles, EditedFiles, OpenFiles, asked_node};
+use adf_model::{AdfError, Edit, NodeId, Query, Reply, Text};
 use cg_io::Device;
 
 /// Files under their numbers, with the edits in work of those that are open.
 #[derive(Drop)]
 pub(crate) struct Slots<D: Device> {
     pub(crate) items: Vec<Slot<D>>,
+}
+
+impl<D: Device> Slots<D> {
+    // Whether a call of a node enters its file.
+    fn enter_node(&self, node: NodeId) -> Result<(), AdfError>
+        ensures { result ≡ checked (tests_at_entry (slots_files D.state self.now) (node ∷ []))
+            (Ok tt) }
+    {
+        if node.file as usize >= self.items.len() {
+            return Err(AdfError::NoSuchFile);
+        }
+        enter(&self.items[node.file as usize], node.serial)
+    }
 }
 
 impl<D: Device> OpenFiles for Slots<D> {
@@ -53,11 +70,7 @@ impl<D: Device> OpenFiles for Slots<D> {
 
 impl<D: Device> AskedFiles for Slots<D> {
     fn enter_query(&self, query: &Query) -> Result<(), AdfError> {
-        let node = asked_node(query);
-        if node.file as usize >= self.items.len() {
-            return Err(AdfError::NoSuchFile);
-        }
-        enter(&self.items[node.file as usize], node.serial)
+        self.enter_node(asked_node(query))
     }
 
     fn answer_at(&mut self, at: NodeId, query: &Query) -> Result<Reply, AdfError> {
@@ -65,5 +78,48 @@ impl<D: Device> AskedFiles for Slots<D> {
             unreachable!();
         }
         answer_in(&mut self.items[at.file as usize], at, query)
+    }
+}
+
+impl<D: Device> EditedFiles for Slots<D> {
+    fn enter(&self, edit: &Edit) -> Result<(), AdfError> {
+        match edit {
+            Edit::Move { node, parent } => {
+                first_of(self.enter_node(*node), self.enter_node(*parent))
+            }
+            Edit::Create { parent, .. } | Edit::Link { parent, .. } => self.enter_node(*parent),
+            Edit::Delete { node }
+            | Edit::Rename { node, .. }
+            | Edit::SetLabel { node, .. }
+            | Edit::SetDims { node, .. }
+            | Edit::PutAll { node, .. }
+            | Edit::PutPart { node, .. } => self.enter_node(*node),
+        }
+    }
+
+    fn step(
+        &mut self,
+        number: u32,
+        edit: &Edit,
+        there: Option<NodeId>,
+    ) -> Result<Option<u64>, AdfError> {
+        if number as usize >= self.items.len() {
+            unreachable!();
+        }
+        step_in(&mut self.items[number as usize], edit, there)
+    }
+
+    fn commit(&mut self, number: u32) -> Result<(), AdfError> {
+        if number as usize >= self.items.len() {
+            unreachable!();
+        }
+        commit_in(&mut self.items[number as usize])
+    }
+
+    fn undo(&mut self, number: u32) {
+        if number as usize >= self.items.len() {
+            return;
+        }
+        undo_in(&mut self.items[number as usize]);
     }
 }
