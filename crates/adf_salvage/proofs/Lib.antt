@@ -1,0 +1,5 @@
+pub mod StartLaws
+pub mod WayLaws
+pub mod StepLaws
+pub mod GoingLaws
+pub mod PartLaws

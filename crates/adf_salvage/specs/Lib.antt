@@ -1,0 +1,3 @@
+pub mod LeftOut
+pub mod Parts
+pub mod Surveys
