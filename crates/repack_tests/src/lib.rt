@@ -6,3 +6,5 @@
 
 #[cfg(test)]
 mod copies;
+#[cfg(test)]
+mod damaged;
