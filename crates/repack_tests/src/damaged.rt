@@ -24,8 +24,16 @@ type Row = (Sample, &'static [Part], Wanted);
 
 // In the order of the rules: the head, nodes at several depths, nodes that share bytes, tables, chunks, and what is not tested.
 const ROWS: [Row; 19] = [
-    (Sample::Fresh, &[Part::Bytes(0, b"X")], Wanted::Refused(2, 0)),
-    (Sample::Fresh, &[Part::Bytes(32, b"X")], Wanted::Refused(3, 32)),
+    (
+        Sample::Fresh,
+        &[Part::Bytes(0, b"X")],
+        Wanted::Refused(2, 0),
+    ),
+    (
+        Sample::Fresh,
+        &[Part::Bytes(32, b"X")],
+        Wanted::Refused(3, 32),
+    ),
     (
         Sample::Fresh,
         &[Part::Pointer(146, 300)],
