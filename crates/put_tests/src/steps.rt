@@ -1,8 +1,6 @@
 //! Edits of data and what is expected after them, as steps of a table.
 //!
-//! Each helper makes one call, where its condition holds, and hands on no more than that the free space is one.
-ghost use Rattle.std.specs.Prelude.{IfOk};
-ghost use Rattle.file_heap.specs.Heap.{IsHeap};
+//! Each helper makes one call, where its condition holds.
 
 use crate::files::{END, LINK, MANY, NONE, ONE, ROOT, five_nodes};
 use crate::lints::is_sound;
@@ -114,9 +112,7 @@ const ROWS: [Option<Row>; 6] = [
 ];
 
 // The free space of the file, which has no gap.
-fn new_heap(alloc: Global, space: &mut Bytes, limit: u64) -> Result<Heap, AdfError>
-    ensures { IfOk result (λ heap. IsHeap heap.work.heap) }
-{
+fn new_heap(alloc: Global, space: &mut Bytes, limit: u64) -> Result<Heap, AdfError> {
     if limit == 0 || limit > 1 << 20 {
         return Err(NOT_CALLED);
     }
@@ -131,9 +127,7 @@ fn new_core(
     wide: bool,
     writable: bool,
     limit: u64,
-) -> Result<Core, AdfError>
-    ensures { IfOk result (λ core. IsHeap core.heap.work.heap) }
-{
+) -> Result<Core, AdfError> {
     let heap = new_heap(alloc, space, limit)?;
     let mut rows = Vec::new(alloc);
     for row in ROWS {
@@ -165,10 +159,7 @@ fn shapes(
     core: &mut Core,
     serial: u64,
     dims: Dims,
-) -> Result<(), AdfError>
-    requires { IsHeap core.old.heap.work.heap }
-    ensures { IsHeap core.new.heap.work.heap }
-{
+) -> Result<(), AdfError> {
     if !core.rows.are_near(core.wide) || dims.1.len() > 255 {
         return Err(NOT_CALLED);
     }
@@ -186,10 +177,7 @@ fn fills(
     core: &mut Core,
     serial: u64,
     bytes: &[u8],
-) -> Result<(), AdfError>
-    requires { IsHeap core.old.heap.work.heap }
-    ensures { IsHeap core.new.heap.work.heap }
-{
+) -> Result<(), AdfError> {
     if !core.rows.are_near(core.wide) {
         return Err(NOT_CALLED);
     }
@@ -203,10 +191,7 @@ fn parts(
     serial: u64,
     part: Steps,
     bytes: &[u8],
-) -> Result<(), AdfError>
-    requires { IsHeap core.old.heap.work.heap }
-    ensures { IsHeap core.new.heap.work.heap }
-{
+) -> Result<(), AdfError> {
     if !core.rows.are_near(core.wide) || part.0.len() > 255 {
         return Err(NOT_CALLED);
     }
@@ -237,10 +222,7 @@ fn is_refused(answer: Result<(), AdfError>, wanted: AdfError) -> Result<bool, Ad
 }
 
 // Makes an edit, and tells whether it answered as expected.
-fn make(alloc: Global, space: &mut Bytes, core: &mut Core, step: Step) -> Result<bool, AdfError>
-    requires { IsHeap core.old.heap.work.heap }
-    ensures { IsHeap core.new.heap.work.heap }
-{
+fn make(alloc: Global, space: &mut Bytes, core: &mut Core, step: Step) -> Result<bool, AdfError> {
     match step {
         Step::Dims { node, dims } => shapes(alloc, space, core, node, dims).map(|()| true),
         Step::NoDims { node, dims, error } => {
@@ -317,9 +299,7 @@ fn run(
     space: &mut Bytes,
     core: &mut Core,
     steps: &[Step],
-) -> Result<(), AdfError>
-    requires { IsHeap core.old.heap.work.heap }
-{
+) -> Result<(), AdfError> {
     for (i, step) in steps.iter().enumerate() {
         assert!(rt; make(alloc, space, core, *step)?, "at step {i}");
         assert!(rt; is_so(alloc, space, core, *step)?, "at step {i}");
