@@ -3,3 +3,4 @@ pub mod WayLaws
 pub mod StepLaws
 pub mod GoingLaws
 pub mod PartLaws
+pub mod WholeLaws

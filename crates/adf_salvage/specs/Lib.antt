@@ -1,3 +1,4 @@
 pub mod LeftOut
 pub mod Parts
 pub mod Surveys
+pub mod Salvages

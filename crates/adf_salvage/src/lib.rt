@@ -11,6 +11,8 @@ mod part;
 mod progress;
 mod survey;
 mod ways;
+mod whole;
 
 pub use list::{Left, LeftOut};
 pub use part::{SoundPart, sound_part};
+pub use whole::{Salvaged, salvage};
