@@ -19,7 +19,8 @@ use Rattle.adf_model.specs.Causes.{RefusalLeaves, IsIndex, ComesFromFiles, Enter
 use Rattle.adf_model.specs.FileGroup.{LeavesStanding, DoneAnyway, IsBrokenGroup, RefusedAnyway, FileGroupAnyway}
 use Rattle.adf_model.proofs.Basics.{not_true, same_Some}
 use Rattle.adf_model.proofs.Answering.StandingLaws.{standings_with, same_standings, names_with}
-use Rattle.adf_follow.specs.Groups.{NamesRule, IsOfKind}
+use Rattle.adf_model.specs.NamedRules.{NamesRule}
+use Rattle.adf_follow.specs.Groups.{IsOfKind}
 use Rattle.adf_follow.proofs.DoneAmong.{all_get}
 use Rattle.adf_follow.proofs.DoneEdit.{first_of, first_has}
 use Rattle.adf_follow.proofs.FileSteps.{own_first}

@@ -3,10 +3,9 @@ use Rattle.std.specs.Prelude.{◌≡◌, ◌≢◌, ◌⊎◌, ℕ, ◌+◌, ◌
 use Rattle.std.specs.List.{AllByRecursion}
 use Rattle.adf_format.specs.Tree.{Tree}
 use Rattle.adf_format.specs.Placement.{Placement}
-use Rattle.adf_format.specs.RuleNumbers.{IsRule}
 use Rattle.adf_format.specs.HeapRule.{place_edit}
 use Rattle.adf_model.specs.declared.error.AdfError.{AdfError}
-use Rattle.adf_model.specs.declared.error.AdfError.TheVariants.{Memory, ReadFault, LinkMissing, Layout, Full}
+use Rattle.adf_model.specs.declared.error.AdfError.TheVariants.{Memory, ReadFault, LinkMissing, Full}
 use Rattle.adf_model.specs.declared.error.EditError.{EditError}
 use Rattle.adf_model.specs.declared.tree.Edit.{Edit}
 use Rattle.adf_model.specs.declared.tree.NodeId.{NodeId}
@@ -23,6 +22,7 @@ use Rattle.adf_model.specs.OneFile.{StandsIn}
 use Rattle.adf_model.specs.Calls.{Group, tests_of_files, tests_at_entry, resolve, group_step, edit_group}
 use Rattle.adf_model.specs.Steps.{OthersOnlyRead, OthersStayPlaced, HasCauseOf, own_file, IsFileRefusal}
 use Rattle.adf_model.specs.Causes.{EntersFiles, may_refuse_edit}
+use Rattle.adf_model.specs.NamedRules.{NamesRule}
 use Rattle.tree_laws.specs.Groups.{tree_left, group_need, AreDone}
 use Rattle.adf_follow.specs.Looking.{IsToldIn}
 
@@ -173,11 +173,6 @@ pub record IsRefusedAnyway (files : Files) (before now : Devices) (edit : Edit) 
   pub entry : EntersFiles {A = Unit {0}} files (named_nodes edit) (is_some (followed edit)) (Err error)
   pub cause : HasCauseOf files before now error
   pub kind : IsTrue (may_refuse_edit edit error)
-
--- what bytes that are no layout break is a rule
-abbrev pub NamesRule : AdfError → Type 0
-NamesRule (Layout rule place) = IsRule rule
-NamesRule error = Unit {0}
 
 -- the refusal of a group of one file names a rule, and is of the kind of its edit
 pub record IsOfKind (edits : List Edit) (refusal : EditError) : Type 0 where

@@ -31,7 +31,8 @@ use Rattle.cg_io.proofs.ReadLaws.{only_none, only_then}
 use Rattle.adf_tree.specs.Commits.{Commits, Breaks, CommitEnds, TearsAll, TearsGroup, undone}
 use Rattle.adf_tree.specs.Files.{FileState, FollowsAll, DoesAll, accepted, device_with}
 use Rattle.adf_tree.specs.Steps.{IsStepCause, Refused, StepEnds, Stepped, undone_over}
-use Rattle.adf_tree.specs.Groups.{GroupAnyway, GroupBreaks, GroupDone, GroupRefused, GroupStops, IsGroupOf, IsOfKind, IsUnderWay, NamesRule, NextEnds, RefusalLeaves, WorkOf, made_by, standing_in}
+use Rattle.adf_model.specs.NamedRules.{NamesRule}
+use Rattle.adf_tree.specs.Groups.{GroupAnyway, GroupBreaks, GroupDone, GroupRefused, GroupStops, IsGroupOf, IsOfKind, IsUnderWay, NextEnds, RefusalLeaves, WorkOf, made_by, standing_in}
 use Rattle.adf_tree.proofs.Stepping.{same_accepted}
 
 -- ---- standings

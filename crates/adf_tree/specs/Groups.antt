@@ -1,11 +1,11 @@
 -- What a group of edits answers, and what it leaves of an open file.
-use Rattle.std.specs.Prelude.{◌≡◌, ◌⊎◌, ℕ, true, false, if◌then◌else◌, List, [], ◌∷◌, ◌++◌, length, take, Some, None, Option, IfSome, IsTrue, slice_get, ⊤, Result, Ok, Err}
+use Rattle.std.specs.Prelude.{◌≡◌, ◌⊎◌, ℕ, true, false, if◌then◌else◌, List, [], ◌∷◌, ◌++◌, length, take, Some, None, Option, IfSome, IsTrue, slice_get, Result, Ok, Err}
 use Rattle.adf_format.specs.Tree.{Tree}
 use Rattle.adf_format.specs.Placement.{Placement}
-use Rattle.adf_format.specs.RuleNumbers.{IsRule}
 use Rattle.adf_model.specs.Causes.{may_refuse_edit}
 use Rattle.adf_model.specs.Counts.{OnlyReads}
 use Rattle.adf_model.specs.Edits.{Work, file_group}
+use Rattle.adf_model.specs.NamedRules.{NamesRule}
 use Rattle.adf_model.specs.FileGroup.{FileBreaks, FileEdited, FileStops, FileGroupAnyway}
 use Rattle.adf_model.specs.Slots.{Open, Standing, no_device}
 use Rattle.adf_model.specs.Slots.Slot.{Broken, Live}
@@ -88,11 +88,6 @@ RefusalLeaves e old new = new ≡ undone_over new.device old
 abbrev pub GroupAnyway : List Edit → Result (List NodeId) EditError → FileState → FileState → Type 0
 GroupAnyway edits result old new =
     FileGroupAnyway (standing_in old) (device_with no_device.placement old.device) edits result (device_with no_device.placement new.device) (standing_in new)
-
--- bytes that are no layout break a rule
-abbrev pub NamesRule : AdfError → Type 0
-NamesRule (error.Layout rule place) = IsRule rule
-NamesRule e = ⊤
 
 -- the refusal of a group names a rule, and is of the kind of its edit
 pub record IsOfKind (edits : List Edit) (refusal : EditError) : Type 0 where
