@@ -1,5 +1,7 @@
 //! What is answered where a call of the space fails.
-use crate::images::front;
+ghost use Rattle.disk_ptr.specs.View.{HasOffset};
+
+use crate::images::{crowded, front};
 use crate::steps::{Step, new_heap, run};
 use adf_data::DataPlace;
 use adf_model::AdfError;
@@ -34,30 +36,76 @@ const CALLS: [Step; 9] = [
     },
 ];
 
-// Makes a heap and all calls, up to the first that is refused.
-fn run_all(rt: &impl Abort, alloc: Global, space: &mut Bytes) -> Result<(), AdfError> {
-    let mut heap = new_heap(alloc, space, 1129, 1)?;
-    let mut at = DataPlace::none();
-    run(rt, alloc, &mut heap, space, &mut at, &CALLS)
+/// Data in as many chunks as are gathered, which grow.
+const GATHERED: [Step; 3] = [
+    Step::Resize { old: 64, new: 65 },
+    Step::Length { is: 85 },
+    Step::Read {
+        element: 1,
+        runs: &[(0, 2), (63, 2)],
+        are: &[0, 1, 63, 0],
+    },
+];
+
+// Makes a heap and takes steps on the data at a place, up to the first call that is refused.
+fn run_all(
+    rt: &impl Abort,
+    alloc: Global,
+    space: &mut Bytes,
+    mut at: DataPlace,
+    end: u64,
+    steps: &[Step],
+) -> Result<(), AdfError>
+    requires { HasOffset at.pointer }
+{
+    let mut heap = new_heap(alloc, space, end, 16)?;
+    run(rt, alloc, &mut heap, space, &mut at, steps)
 }
 
-// Each call of the space in turn fails: the answer is that fault.
+// Whether no call failed any more; the answer to one that did is that fault.
+fn is_through(rt: &impl Abort, space: &Bytes, k: u64, answer: Result<(), AdfError>) -> bool {
+    match answer {
+        Ok(()) => {
+            assert!(rt; space.calls < k);
+            true
+        }
+        Err(error) => {
+            assert!(rt;
+                error == AdfError::ReadFault && space.faults == 1,
+                "at call {k}"
+            );
+            false
+        }
+    }
+}
+
+// Each call of the space in turn fails.
 #[test]
 fn each_call_of_the_space_may_fail(rt: HostRuntime) -> Result<(), Fail> {
+    let alloc = rt.alloc();
     for k in 1..400 {
-        let mut space = front(rt.alloc(), 4096)?;
+        let mut space = front(alloc, 4096)?;
         space.failing = k;
-        match run_all(&rt, rt.alloc(), &mut space) {
-            Ok(()) => {
-                assert!(rt; space.calls < k);
-                return Ok(());
-            }
-            Err(error) => {
-                assert!(rt;
-                    error == AdfError::ReadFault && space.faults == 1,
-                    "at call {k}"
-                )
-            }
+        let answer = run_all(&rt, alloc, &mut space, DataPlace::none(), 1129, &CALLS);
+        if is_through(&rt, &space, k, answer) {
+            return Ok(());
+        }
+    }
+    Err("more calls than were to fail")?
+}
+
+#[test]
+fn each_call_of_the_space_may_fail_where_data_are_gathered(rt: HostRuntime) -> Result<(), Fail> {
+    let alloc = rt.alloc();
+    for k in 1..2000 {
+        let mut space = front(alloc, 1 << 16)?;
+        let Some(at) = crowded(&mut space, 64) else {
+            return Err("the file is not made")?;
+        };
+        space.failing = k;
+        let answer = run_all(&rt, alloc, &mut space, at, 12_999, &GATHERED);
+        if is_through(&rt, &space, k, answer) {
+            return Ok(());
         }
     }
     Err("more calls than were to fail")?

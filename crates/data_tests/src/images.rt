@@ -83,14 +83,14 @@ pub fn opened(space: &mut Bytes, table: u64, chunks: &[(u64, &[u8])]) -> Option<
     })
 }
 
-/// As many chunks as a table can list, each of one byte, from place 10,000 on, with their table behind them.
-pub fn crowded(space: &mut Bytes) -> Option<DataPlace>
+/// So many chunks, each of one byte, from place 10,000 on, with their table behind them.
+pub fn crowded(space: &mut Bytes, count: u16) -> Option<DataPlace>
     ensures { IfSome result (λ at. HasOffset at.pointer) }
 {
-    let table: u64 = 10_000 + 21 * 65_535;
+    let table: u64 = 10_000 + 21 * u64::from(count);
     let mut entry = table + 16;
     let mut at: u64 = 10_000;
-    for number in 0..65_535u32 {
+    for number in 0..count {
         let byte = (number % 251) as u8;
         if !put_chunk(space, at, &[byte]) || !put_entry(space, entry, at, 1) {
             return None;
@@ -98,11 +98,11 @@ pub fn crowded(space: &mut Bytes) -> Option<DataPlace>
         entry = entry.saturating_add(24);
         at = at.saturating_add(21);
     }
-    if !put_table(space, table, 65_535) {
+    if !put_table(space, table, count) {
         return None;
     }
     Some(DataPlace {
-        count: 65_535,
+        count,
         pointer: from_place(table),
     })
 }

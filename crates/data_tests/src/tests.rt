@@ -1,13 +1,14 @@
 //! The data of one node, as tables of steps.
 use crate::images::{crowded, front, opened};
-use crate::steps::{Step, run_at, run_on};
+use crate::steps::{Step, new_heap, run, run_at, run_on};
 use adf_chunks::ExtentKind::FreeChunk;
+use adf_data::DataPlace;
 use std::test::Fail;
 use test_spaces::Bytes;
 
 const HUNDRED: [u8; 100] = [7; 100];
 
-const A_NODE_GROWS: [Step; 17] = [
+const A_NODE_GROWS: [Step; 19] = [
     Step::Resize { old: 0, new: 100 },
     Step::One { place: 1130 },
     Step::End { is: 1249 },
@@ -23,6 +24,10 @@ const A_NODE_GROWS: [Step; 17] = [
     },
     Step::End { is: 1387 },
     Step::Gaps { are: &[] },
+    Step::Bytes {
+        at: 1320,
+        are: b"DCtb00000000056800000000046A0000000004DE0000000004E2000000000524dcTE",
+    },
     Step::Resize { old: 150, new: 160 },
     Step::Many {
         count: 3,
@@ -31,6 +36,10 @@ const A_NODE_GROWS: [Step; 17] = [
     Step::End { is: 1511 },
     Step::Gaps {
         are: &[(1320, 68, FreeChunk)],
+    },
+    Step::Bytes {
+        at: 1420,
+        are: b"DCtb0000000005E400000000046A0000000004DE0000000004E200000000052400000000056C000000000588dcTE",
     },
     Step::Resize { old: 160, new: 162 },
     Step::Many {
@@ -83,7 +92,7 @@ fn old_bytes_do_not_come_back(rt: HostRuntime) -> Result<(), Fail> {
     run_on(&rt, rt.alloc(), space, 1129, 1, &SHRUNK)
 }
 
-const SIXTY_FOUR_CHUNKS: [Step; 69] = [
+const SIXTY_FOUR_CHUNKS: [Step; 73] = [
     Step::Resize { old: 0, new: 12 },
     Step::Resize { old: 12, new: 24 },
     Step::Resize { old: 24, new: 36 },
@@ -148,14 +157,23 @@ const SIXTY_FOUR_CHUNKS: [Step; 69] = [
     Step::Resize { old: 732, new: 744 },
     Step::Resize { old: 744, new: 756 },
     Step::Resize { old: 756, new: 768 },
-    Step::Count { is: 64 },
+    Step::Many {
+        count: 64,
+        table: 5282,
+    },
+    Step::End { is: 9705 },
     Step::Write {
         element: 12,
         runs: &[(0, 1), (63, 1)],
         bytes: b"first bytes!last bytes!!",
     },
     Step::Resize { old: 768, new: 780 },
+    Step::One { place: 3750 },
     Step::Length { is: 800 },
+    Step::Gaps {
+        are: &[(1130, 2620, FreeChunk), (4550, 5156, FreeChunk)],
+    },
+    Step::End { is: 9705 },
     Step::Read {
         element: 12,
         runs: &[(0, 1), (1, 1), (63, 2)],
@@ -221,6 +239,31 @@ const CUT_ELEMENTS: [Step; 12] = [
 fn elements_are_cut_between_chunks(rt: HostRuntime) -> Result<(), Fail> {
     let space = front(rt.alloc(), 4096)?;
     run_on(&rt, rt.alloc(), space, 1129, 1, &CUT_ELEMENTS)
+}
+
+const EIGHT_ELEMENTS: [Step; 1] = [Step::Put {
+    bytes: b"abcdefgh........ijklmnop........qrstuvwx........yzabcdef........",
+}];
+
+const EVERY_OTHER: [Step; 1] = [Step::Read {
+    element: 8,
+    runs: &[(0, 1), (2, 1), (4, 1), (6, 1)],
+    are: b"abcdefghijklmnopqrstuvwxyzabcdef",
+}];
+
+// The head of the chunk is read, and then the block of all runs once.
+#[test]
+fn short_runs_read_their_block_once(rt: HostRuntime) -> Result<(), Fail> {
+    let alloc = rt.alloc();
+    let mut space = front(alloc, 4096)?;
+    let mut heap = new_heap(alloc, &mut space, 1129, 1)?;
+    let mut at = DataPlace::none();
+    run(&rt, alloc, &mut heap, &mut space, &mut at, &EIGHT_ELEMENTS)?;
+    let before = space.calls;
+    run(&rt, alloc, &mut heap, &mut space, &mut at, &EVERY_OTHER)?;
+    let calls = space.calls.saturating_sub(before);
+    assert!(rt; calls == 2, "{calls} calls");
+    Ok(())
 }
 
 const RELEASED: [Step; 9] = [
@@ -358,7 +401,7 @@ const A_CROWDED_FILE: [Step; 8] = [
 #[test]
 fn as_many_chunks_as_a_table_lists_are_gathered(rt: HostRuntime) -> Result<(), Fail> {
     let mut space = front(rt.alloc(), 1 << 22)?;
-    let Some(at) = crowded(&mut space) else {
+    let Some(at) = crowded(&mut space, 65_535) else {
         return Err("the file is not made")?;
     };
     run_at(&rt, rt.alloc(), space, at, 2_999_999, 4096, &A_CROWDED_FILE)
