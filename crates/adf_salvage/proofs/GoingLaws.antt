@@ -6,6 +6,7 @@ use Rattle.std.proofs.lemmas.List.{length-map}
 use Rattle.std.proofs.lemmas.List.Elements.{All-nil, All-push}
 use Rattle.adf_format.specs.Fields.{trimmed}
 use Rattle.adf_format.specs.Parts.{node_length}
+use Rattle.adf_format.specs.RuleNumbers.{IsRule}
 use Rattle.layout_laws.specs.NodePass.{Waiting, waiting_child}
 use Rattle.layout_lint.specs.declared.look.Next.{Next}
 use Rattle.layout_lint.specs.declared.node.Met.{Met}
@@ -17,6 +18,7 @@ use Rattle.layout_lint.specs.Walks.{node_place, waiting_of, waiting_in, left_in,
 use Rattle.layout_lint.proofs.ShapeLaws.{linked_then, within_then, families_then, child_follows, some_then}
 use Rattle.layout_lint.proofs.StackLaws.{further, of_taken, of_rest, open_further, stepped_taken, deep_taken, one_less, one_waits, none_waits, so_many_more, stepped_open}
 use Rattle.adf_salvage.specs.declared.progress.Progress.{Progress}
+use Rattle.adf_salvage.specs.LeftOut.{way_text, HasRule}
 use Rattle.adf_salvage.specs.Surveys.{IsEmpty, Keeps, Enters, Omits, IsGoing, IsSurvey, IsNextIn, IsWayTo, AreWays, ahead}
 use Rattle.adf_salvage.proofs.WayLaws.{ways_first, way_last}
 
@@ -49,6 +51,7 @@ module _ (wide : Bool) (end : ℕ) (s mid t : Progress) (m : Met) (name : List �
     named = (let long = ap length pushed ∙ length-append s.families.items (family ∷ []) in let n = names in omega (arith, long, n, many));
     room = (let room = leads.room in let u = keeps.used in omega (arith, room, u));
     some = some_then t.nodes.items (map node_place s.nodes.items) (met_place m) nodes;
+    rules = rw (keeps.left ∙ enters.left) going.rules;
   }
 
   pub kept_nearer : ahead end t ≤ ahead end s
@@ -82,13 +85,14 @@ module _ (wide : Bool) (end : ℕ) (s t : Progress) (m : Met) (used : ℕ) (next
     named = (let long = ap length one_family in omega (arith, long));
     room = (let room = leads.room in let u = keeps.used in omega (arith, room, u));
     some = some_then t.nodes.items [] (met_place m) one_node;
+    rules = subst (All HasRule) (sym (ap (λ v. v.items) keeps.left ∙ empty.left)) (All-nil HasRule);
   }
 
 -- ---- a node is left out
 
 module _ (wide : Bool) (end : ℕ) (s t : Progress) (name : List ℕ) (b : Broken) (going : IsGoing wide end s) (omits : Omits name b s t) where
-  pub omitted_going : IsGoing wide end t
-  omitted_going = record {
+  pub omitted_going : IsRule b.rule → IsGoing wide end t
+  omitted_going ruled = record {
     readable = rw omits.families going.readable;
     stepped = rw omits.families going.stepped;
     families = rw (omits.families, omits.nodes) going.families;
@@ -97,6 +101,7 @@ module _ (wide : Bool) (end : ℕ) (s t : Progress) (name : List ℕ) (b : Broke
     named = rw (omits.families, omits.names) going.named;
     room = rw omits.used going.room;
     some = rw omits.nodes going.some;
+    rules = subst (All HasRule) (sym omits.left) (All-push HasRule s.left.items (record { path = way_text (map trimmed s.names.items ++ trimmed name ∷ []); rule = b.rule; place = b.place }) going.rules ruled);
   }
 
   pub omitted_nearer : ahead end t ≤ ahead end s
@@ -148,6 +153,7 @@ module _ (wide : Bool) (end : ℕ) (s t : Progress) (family : Family) (going : I
     named = (let n = taken_named in omega (arith, n));
     room = rw taken.used going.room;
     some = rw taken.nodes going.some;
+    rules = rw taken.left going.rules;
   }
 
   pub taken_deep : (m : Met) → IsChildIn family m → m.depth ≡ length t.families.items
@@ -209,8 +215,8 @@ none_taken image s t took names nodes places used left u = record {
   told = rw left u.told;
 }
 
-pub none_going : (wide : Bool) (end : ℕ) (s t : Progress) → t.families.items ≡ [] → t.nodes ≡ s.nodes → t.used ≡ s.used → IsGoing wide end s → IsGoing wide end t
-none_going wide end s t none nodes used going = record {
+pub none_going : (wide : Bool) (end : ℕ) (s t : Progress) → t.families.items ≡ [] → t.nodes ≡ s.nodes → t.used ≡ s.used → t.left ≡ s.left → IsGoing wide end s → IsGoing wide end t
+none_going wide end s t none nodes used left going = record {
   readable = rw none (All-nil (IsOpen end));
   stepped = rw none (λ k f e. cc);
   families = rw none (All-nil (IsFamilyOf (map node_place t.nodes.items)));
@@ -219,4 +225,5 @@ none_going wide end s t none nodes used going = record {
   named = (let n = ap length none in omega (arith, n));
   room = rw used going.room;
   some = rw nodes going.some;
+  rules = rw left going.rules;
 }

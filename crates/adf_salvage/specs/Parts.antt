@@ -1,5 +1,6 @@
 -- The sound part of a damaged file, as it is answered.
 use Rattle.std.specs.Prelude.{◌≡◌, ◌⊎◌, ℕ, ◌^◌, ◌<◌, List, [], ◌∷◌, length, map, Some, ⊤}
+use Rattle.std.specs.List.{All}
 use Rattle.adf_format.specs.declared.fields.TheConstants.{HEADER_LENGTH}
 use Rattle.adf_format.specs.Checks.{Fault, Row, first_broken}
 use Rattle.adf_format.specs.Fields.{field}
@@ -13,7 +14,7 @@ use Rattle.layout_lint.specs.Shapes.{AreLinked, AreWithin}
 use Rattle.layout_lint.specs.Walks.{node_place}
 use Rattle.salvage_laws.specs.Surveys.{NameVisits}
 use Rattle.adf_salvage.specs.declared.part.SoundPart.{SoundPart}
-use Rattle.adf_salvage.specs.LeftOut.{left_of}
+use Rattle.adf_salvage.specs.LeftOut.{left_of, HasRule}
 
 -- rules 1 to 7
 abbrev pub start_rows : List ℕ → List Row
@@ -28,13 +29,14 @@ pub record IsPartOf (image : List ℕ) (part : SoundPart) : Type 0 where
   pub told : part.left ≡ map (left_of kept) left
   pub wide : part.wide ≡ is_wide image
 
--- The nodes are linked, and their headers lie within what pointers reach: so it is of any file, whether bytes are told or not.
+-- The nodes are linked, their headers lie within what pointers reach, and what is left out breaks a rule: so it is of any file, whether bytes are told or not.
 pub record IsShaped (part : SoundPart) : Type 0 where
   pub some : 0 < length part.nodes
   pub linked : AreLinked (map node_place part.nodes)
   pub end : ℕ
   pub reached : end < 2 ^ 44
   pub headers : AreWithin part.wide end (map node_place part.nodes)
+  pub rules : All HasRule part.left
 
 -- the file has no sound part: this is the first of rules 1 to 7 that its head breaks, or the first rule that its root breaks
 abbrev pub HasNoPart : List ℕ → Fault → Type 0

@@ -23,7 +23,7 @@ use Rattle.salvage_laws.specs.Surveys.{IsSurveying}
 use Rattle.adf_salvage.specs.declared.head.Start.{Start}
 use Rattle.adf_salvage.specs.declared.list.Left.{Left}
 use Rattle.adf_salvage.specs.declared.progress.Progress.{Progress}
-use Rattle.adf_salvage.specs.LeftOut.{way_text}
+use Rattle.adf_salvage.specs.LeftOut.{way_text, HasRule}
 use Rattle.adf_salvage.specs.Parts.{start_rows, HasNoPart}
 
 -- ---- the head
@@ -112,7 +112,7 @@ pub record Omits (name : List ℕ) (b : Broken) (old new : Progress) : Type 0 wh
 
 -- ---- what holds between two steps
 
--- The nodes that are kept are linked and lie within the file; the children that wait can be read, and one name stands for each node on the way.
+-- The nodes that are kept are linked and lie within the file; the children that wait can be read, one name stands for each node on the way, and what is left out breaks a rule.
 pub record IsGoing (wide : Bool) (end : ℕ) (p : Progress) : Type 0 where
   pub readable : All (IsOpen end) p.families.items
   pub stepped : AreStepped p.families.items
@@ -122,6 +122,7 @@ pub record IsGoing (wide : Bool) (end : ℕ) (p : Progress) : Type 0 where
   pub named : length p.families.items ≤ length p.names.items + 1
   pub room : p.used ≤ end + 1
   pub some : 0 < length p.nodes.items
+  pub rules : All HasRule p.left.items
 
 -- how far a survey is from its end: the bytes that are not used yet, and the children that wait
 abbrev pub ahead : ℕ → Progress → ℕ

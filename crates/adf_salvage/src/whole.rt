@@ -1,9 +1,11 @@
 //! A packed copy of the sound part of a damaged file.
 
 ghost use Rattle.std.specs.Prelude.{IfOk, IfErr, OnOk};
+ghost use Rattle.std.specs.List.{All};
 ghost use Rattle.adf_model.specs.Counts.{OnlyReads};
 ghost use Rattle.adf_repack.specs.Measures.{WhereTold, HoldsNone};
 ghost use Rattle.adf_repack.specs.Repacks.{IsWritten, IsLicensed, LeavesDevice};
+ghost use Rattle.adf_salvage.specs.LeftOut.{HasRule};
 ghost use Rattle.adf_salvage.specs.Salvages.{IsSalvaged, IsSalvageRefusal};
 
 use crate::list::LeftOut;
@@ -40,6 +42,7 @@ pub fn salvage<B: Blocks, E: Device>(
     ensures written { IfOk result (λ s. IsWritten (E.state device) (E.state s.device) s.end) }
     ensures salvaged { IfOk result (λ s. WhereTold (B.state blocks.old).held
         (λ image. IsSalvaged image (E.state s.device).held s.end s.left)) }
+    ensures rules { IfOk result (λ s. All HasRule s.left) }
     ensures licensed { IfErr result (λ e. IsLicensed (B.state blocks.old) (B.state blocks.new)
         (E.state device) (E.state e.1) e.0) }
     ensures left { IfErr result (λ e. LeavesDevice (E.state device) (E.state e.1) e.0) }

@@ -16,4 +16,5 @@ returns-clause-shape g c =
       end = c.in_ok-start.start.span.end;
       reached = c.in_ok-start.ensures.bound;
       headers = rw c.new.ensures going.headers;
+      rules = rw c.new-2.ensures going.rules;
     }

@@ -1,7 +1,7 @@
 use Rattle.std.proofs.Common.{refl, subst}
 use Rattle.std.proofs.lemmas.Result.{on_ok_weaker}
 use Rattle.layout_laws.specs.NodePass.{node_rows_at}
-use Rattle.layout_lint.specs.Halts.{Breaks}
+use Rattle.layout_lint.specs.Halts.{Breaks, MayLackMemory}
 use Rattle.adf_salvage.specs.Surveys.{Keeps, Omits}
 use Rattle.adf_salvage.proofs.GoingLaws.{kept_going, omitted_going}
 use Rattle.adf_salvage.proofs.StepLaws.{keeps_so, omits_so}
@@ -26,4 +26,5 @@ returns-in-Err-Broken-clause-goes_on g c = on_ok_weaker c.omit.result (λ (omits
 
 pub returns-in-Err-Broken-clause-going : goal.returns-in-Err-Broken-clause-going
 returns-in-Err-Broken-clause-going g c = on_ok_weaker c.omit.result (λ (omits : Omits c.args.name.now c.in-Err-Broken.fault c.args.progress.now c.omit.new.progress).
-    omitted_going c.args.span.wide c.args.span.end c.args.progress.now c.omit.new.progress c.args.name.now c.in-Err-Broken.fault c.requires.going omits) c.omit.ensures.omitted
+    omitted_going c.args.span.wide c.args.span.end c.args.progress.now c.omit.new.progress c.args.name.now c.in-Err-Broken.fault c.requires.going omits
+    (subst (MayLackMemory (g.B.Blocks.state c.args.blocks.now).faults (g.B.Blocks.state c.look.new.blocks).faults) c.in-Err-Broken.field-0-is c.in-Err-Broken.ensures.cause)) c.omit.ensures.omitted
