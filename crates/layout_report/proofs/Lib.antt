@@ -1,5 +1,5 @@
 mod LintedLaws
 mod ListedLaws
 mod MappedLaws
-mod ReportLaws
+pub mod ReportLaws
 mod TextLaws

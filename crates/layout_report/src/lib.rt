@@ -7,6 +7,7 @@ mod lint;
 mod map;
 mod output;
 
+pub use lines::fault_line;
 pub use lint::lint_file;
 pub use map::map_file;
 

@@ -11,13 +11,13 @@ use std::test::Fail;
 
 /// Which calls are to fail, from 1; 0 for none: a read of the file, a read and a write of the device that the copy goes to.
 #[derive(Clone, Copy, Drop)]
-struct Faults {
-    source: u64,
-    read: u64,
-    write: u64,
+pub struct Faults {
+    pub source: u64,
+    pub read: u64,
+    pub write: u64,
 }
 
-const NO_FAULTS: Faults = Faults {
+pub const NO_FAULTS: Faults = Faults {
     source: 0,
     read: 0,
     write: 0,
@@ -25,13 +25,18 @@ const NO_FAULTS: Faults = Faults {
 
 /// What came of a copy: the last byte, or the refusal; what the device holds then, and how often it was read and written.
 #[derive(Drop)]
-struct Copied {
-    end: Result<u64, AdfError>,
-    device: MemoryDevice,
+pub struct Copied {
+    pub end: Result<u64, AdfError>,
+    pub device: MemoryDevice,
 }
 
-// A device that holds these bytes, and whose read or write of this number is to fail.
-fn device_of(alloc: Global, text: Text, read: u64, write: u64) -> Result<MemoryDevice, AdfError> {
+/// A device that holds these bytes, and whose read or write of this number is to fail.
+pub fn device_of(
+    alloc: Global,
+    text: Text,
+    read: u64,
+    write: u64,
+) -> Result<MemoryDevice, AdfError> {
     if text.items().len() > 1 << 20 {
         return Err(AdfError::Memory);
     }
@@ -104,7 +109,8 @@ fn pack_text(alloc: Global, from: Text) -> Result<Copied, AdfError> {
     }
 }
 
-fn copy_sample(
+/// A copy of a file into an empty device.
+pub fn copy_sample(
     alloc: Global,
     sample: Sample,
     target: Target,
@@ -122,8 +128,8 @@ fn copy_sample(
     )
 }
 
-// The bytes of a device as a text.
-fn text_of(alloc: Global, device: &MemoryDevice) -> Result<Text, AllocError> {
+/// The bytes of a device as a text.
+pub fn text_of(alloc: Global, device: &MemoryDevice) -> Result<Text, AllocError> {
     let mut bytes = Vec::new(alloc);
     bytes.extend_from_slice(device.held())?;
     Ok(Text::new(bytes))
@@ -131,15 +137,16 @@ fn text_of(alloc: Global, device: &MemoryDevice) -> Result<Text, AllocError> {
 
 // ---- lengths and refusals
 
-// The last byte of a copy, or the rule and the place of a refusal, or the number of another refusal.
+/// The last byte of a copy, or the rule and the place of a refusal, or the number of another refusal.
 #[derive(Clone, Copy, Debug, PartialEq, Eq, Drop)]
-enum Outcome {
+pub enum Outcome {
     Ends(u64),
     Broken(u8, u64),
     Refused(u8),
 }
 
-fn outcome_of(end: Result<u64, AdfError>) -> Outcome {
+/// The outcome that a result shows.
+pub fn outcome_of(end: Result<u64, AdfError>) -> Outcome {
     match end {
         Ok(end) => Outcome::Ends(end),
         Err(AdfError::Layout { rule, place }) => Outcome::Broken(rule, place),
@@ -261,7 +268,8 @@ fn nodes_that_were_found_are_written_as_a_copy(rt: HostRuntime) -> Result<(), Fa
 
 // ---- copies of copies
 
-const SOUND: [Sample; 9] = [
+/// Files without a fault.
+pub const SOUND: [Sample; 9] = [
     Sample::Fresh,
     Sample::FreshWide,
     Sample::OneChild,

@@ -8,8 +8,8 @@ use sample_files::{Part, Sample, image_of};
 use std::alloc::Global;
 use std::test::Fail;
 
-// A node that is left out: its path, the rule that it breaks, and where.
-type Out = (&'static [u8], u8, u64);
+/// A node that is left out: its path, the rule that it breaks, and where.
+pub type Out = (&'static [u8], u8, u64);
 
 // What a file has: so many nodes that are kept, and these that are left out; or the rule and the place of a refusal.
 #[derive(Clone, Copy, Drop)]
@@ -143,7 +143,8 @@ fn part_of(alloc: Global, text: Text, read: u64) -> Result<SoundPart, AdfError> 
     }
 }
 
-fn are_left(left: &LeftOut, wanted: &[Out]) -> bool {
+/// Whether exactly these nodes are left out, in this order.
+pub fn are_left(left: &LeftOut, wanted: &[Out]) -> bool {
     let found = left.items();
     if found.len() != wanted.len() {
         return false;

@@ -8,3 +8,5 @@
 mod copies;
 #[cfg(test)]
 mod damaged;
+#[cfg(test)]
+mod salvaged;

@@ -1,4 +1,5 @@
 pub mod CopyLaws
 pub mod NumberLaws
+pub mod SalvageLaws
 pub mod Sessions
 pub mod TwoDevices

@@ -4,8 +4,11 @@ use Rattle.std.specs.List.{position_from}
 use Rattle.std.specs.Str.{bytes_eq}
 use Rattle.std.proofs.lemmas.Slice.Eq.{bytes_eq-Decides}
 use Rattle.adf_model.proofs.Basics.{and_parts, not_true, same_Some}
-use Rattle.adf_library.specs.Shelf.{SlotState, has_name, is_named, number_in}
-use Rattle.tool_commands.specs.Tool.{file_number, is_file_word}
+use Rattle.std.specs.Prelude.{IsSome, codes}
+use Rattle.adf_repack.specs.declared.whole.Target.TheVariants as target
+use Rattle.adf_library.specs.Shelf.{SlotState, device_at, has_name, is_named, number_in}
+use Rattle.tool_commands.specs.Tool.{IsOnShelf, command_between, file_number, is_file_word}
+use Rattle.tool_commands.specs.declared.words.Wanted.TheVariants as asks
 
 -- a position is none before the first
 position_low : {X : Type 0} (test : X → Bool) (xs : List X) (i n : ℕ) → position_from test i xs ≡ Some n → i ≤ n
@@ -44,3 +47,16 @@ number_of_file slots word n e = by_test (is_file_word word) e
 pub apart_numbers : (slots : List SlotState) (a b : List ℕ) (n m : ℕ) → bytes_eq a b ≡ false → file_number slots a ≡ Some n → file_number slots b ≡ Some m → n ≢ m
 apart_numbers slots a b n m apart first second same =
     not_true (sym apart ∙ (bytes_eq-Decides a b).1 (one_name a b slots 0 n (number_of_file slots a n first) (number_of_file slots b n (subst (λ (k : ℕ). file_number slots b ≡ Some k) (sym same) second))))
+
+-- a command over the devices of two numbers that stand on a shelf
+pub between_stands : (command : List ℕ) (from to : ℕ) (slots : List SlotState) → from ≢ to → IsSome (device_at slots from) → IsSome (device_at slots to) → IsOnShelf (command_between command from to) slots
+between_stands command from to slots apart first second =
+    by_tests (bytes_eq command (codes "repack")) (bytes_eq command (codes "widen")) (bytes_eq command (codes "narrow")) (bytes_eq command (codes "salvage"))
+  where
+    by_tests : (repack widen narrow salvage : Bool)
+        → IsOnShelf (cond repack (asks.Copy target.Same from to) (cond widen (asks.Copy target.Wide from to) (cond narrow (asks.Copy target.Narrow from to) (cond salvage (asks.Salvage from to) asks.Nothing)))) slots
+    by_tests true widen narrow salvage = (apart, first, second)
+    by_tests false true narrow salvage = (apart, first, second)
+    by_tests false false true salvage = (apart, first, second)
+    by_tests false false false true = (apart, first, second)
+    by_tests false false false false = tt

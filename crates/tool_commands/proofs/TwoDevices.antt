@@ -13,6 +13,8 @@ use Rattle.adf_library.specs.declared.places.Slot.{Slot}
 use Rattle.adf_library.specs.Shelf.{PlaceState, SlotState, place_of, slot_of, slots_of, device_in_place, device_at, changed_at, with_device, taken, IsTaken, IsNotTaken, IsWhole, IsWholeBut}
 use Rattle.adf_library.specs.Shelf.PlaceState.{There, Taken}
 use Rattle.adf_library.proofs.ShelfSlots.{taken_and_put_back, all_at}
+use Rattle.tool_commands.specs.Pairs.{both_taken, IsWholeButBoth}
+use Rattle.tool_commands.specs.Tool.{OnDevices}
 
 -- ---- slots
 
@@ -51,12 +53,26 @@ changed_apart first then (x ∷ xs) (suc n) zero apart = refl
 changed_apart first then (x ∷ xs) (suc n) (suc m) apart = ap (λ (l : List SlotState). x ∷ l) (changed_apart first then xs n m (λ is. apart (ap suc is)))
 
 -- two devices, taken and then put back as others
-pub both_put_back : (slots : List SlotState) (n m : ℕ) (a b : DeviceState) → n ≢ m
-    → with_device (with_device (changed_at taken (changed_at taken slots n) m) n a) m b ≡ with_device (with_device slots n a) m b
+both_put_back : (slots : List SlotState) (n m : ℕ) (a b : DeviceState) → n ≢ m → with_device (with_device (both_taken slots n m) n a) m b ≡ with_device (with_device slots n a) m b
 both_put_back slots n m a b apart =
     ap (λ (l : List SlotState). with_device l m b) (changed_apart taken (λ was. There a) (changed_at taken slots n) m n (λ is. apart (sym is)))
     ∙ taken_and_put_back (with_device (changed_at taken slots n) n a) m b
     ∙ ap (λ (l : List SlotState). with_device l m b) (taken_and_put_back slots n a)
+
+-- what was done to two devices that were taken was done to those of the shelf
+pub on_devices : (from to : ℕ) (Did : DeviceState → DeviceState → DeviceState → DeviceState → Type 0) (old left new : List SlotState) (source source_after target target_after : DeviceState) → from ≢ to
+    → device_at old from ≡ Some source → device_at old to ≡ Some target → left ≡ both_taken old from to → new ≡ with_device (with_device left from source_after) to target_after
+    → Did source source_after target target_after → OnDevices from to Did old new
+on_devices from to Did old left new source source_after target target_after apart source_there target_there rest back did = record {
+  source = source;
+  source_after = source_after;
+  target = target;
+  target_after = target_after;
+  source_there = source_there;
+  target_there = target_there;
+  left = back ∙ ap (λ (l : List SlotState). with_device (with_device l from source_after) to target_after) rest ∙ both_put_back old from to source_after target_after apart;
+  did = did;
+}
 
 -- ---- which devices are taken
 
@@ -96,20 +112,29 @@ module _ {D : Type 0} (state : D → DeviceState) where
   free_not_taken (place.Open file) free = tt
   free_not_taken (place.Gone husk) free = tt
 
-  whole_free : (shelf : Shelf D) → IsWhole shelf → (k : ℕ) → IsFree (slots_of state shelf) k
-  whole_free shelf whole k s e = by_slot (slice_get shelf.slots.items k) refl (sym (slice_get-map (slot_of state) shelf.slots.items k) ∙ e)
+  -- what is known of the slot under a number is known of its meaning
+  free_at : (shelf : Shelf D) (k : ℕ) → ((slot : Slot D) → slice_get shelf.slots.items k ≡ Some slot → IsNotTaken slot.place) → IsFree (slots_of state shelf) k
+  free_at shelf k known s e = by_slot (slice_get shelf.slots.items k) refl (sym (slice_get-map (slot_of state) shelf.slots.items k) ∙ e)
     where
       by_slot : (o : Option (Slot D)) → slice_get shelf.slots.items k ≡ o → option_map (slot_of state) o ≡ Some s → s.place ≢ Taken
       by_slot None at is = absurd cc
-      by_slot (Some slot) at is =
-          subst (λ (z : SlotState). z.place ≢ Taken) (same_Some (slot_of state slot) s is)
-          (not_taken_free slot.place (all_at (λ (z : Slot D). IsNotTaken z.place) shelf.slots.items k slot whole at))
+      by_slot (Some slot) at is = subst (λ (z : SlotState). z.place ≢ Taken) (same_Some (slot_of state slot) s is) (not_taken_free slot.place (known slot at))
 
-  -- the first of two devices that were taken is put back, so that only the second one is taken
-  pub whole_but_second : (before after : Shelf D) (n m : ℕ) (device : DeviceState) → IsWhole before
-      → slots_of state after ≡ with_device (changed_at taken (changed_at taken (slots_of state before) n) m) n device → IsWholeBut m after
+  -- and the other way round
+  known_at : (shelf : Shelf D) (slots : List SlotState) (k : ℕ) (slot : Slot D) → slots_of state shelf ≡ slots → slice_get shelf.slots.items k ≡ Some slot → IsFree slots k → IsNotTaken slot.place
+  known_at shelf slots k slot is e free =
+      free_not_taken slot.place (free (slot_of state slot) (subst (λ (l : List SlotState). slice_get l k ≡ Some (slot_of state slot)) is (slice_get-map (slot_of state) shelf.slots.items k ∙ ap (option_map (slot_of state)) e)))
+
+  -- once two devices are taken, no other one is
+  pub whole_but_both : (before after : Shelf D) (n m : ℕ) → IsWhole before → slots_of state after ≡ both_taken (slots_of state before) n m → IsWholeButBoth n m after
+  whole_but_both before after n m whole is k slot e first second =
+      known_at after (both_taken (slots_of state before) n m) k slot is e
+      (free_elsewhere taken (changed_at taken (slots_of state before) n) m k (λ same. second (sym same))
+      (free_elsewhere taken (slots_of state before) n k (λ same. first (sym same))
+      (free_at before k (λ there at. all_at (λ (z : Slot D). IsNotTaken z.place) before.slots.items k there whole at))))
+
+  -- the first of the two is put back, so that only the second one is taken
+  pub whole_but_second : (before after : Shelf D) (n m : ℕ) (device : DeviceState) → IsWholeButBoth n m before → slots_of state after ≡ with_device (slots_of state before) n device → IsWholeBut m after
   whole_but_second before after n m device whole is k slot e apart =
-      free_not_taken slot.place (free_put (changed_at taken (changed_at taken (slots_of state before) n) m) n k device
-      (λ other. free_elsewhere taken (changed_at taken (slots_of state before) n) m k (λ same. apart (sym same))
-      (free_elsewhere taken (slots_of state before) n k (λ same. other (sym same)) (whole_free before whole k)))
-      (slot_of state slot) (subst (λ (l : List SlotState). slice_get l k ≡ Some (slot_of state slot)) is (slice_get-map (slot_of state) after.slots.items k ∙ ap (option_map (slot_of state)) e)))
+      known_at after (with_device (slots_of state before) n device) k slot is e
+      (free_put (slots_of state before) n k device (λ other. free_at before k (λ there at. whole k there at other apart)))

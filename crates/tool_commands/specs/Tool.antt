@@ -24,6 +24,7 @@ use Rattle.session.specs.declared.session.Ended.{Ended}
 use Rattle.session.specs.declared.session.Ended.TheVariants as ended
 use Rattle.tool_commands.specs.Copies.{CopyEnds}
 use Rattle.tool_commands.specs.Printed.{line, EndsWith}
+use Rattle.tool_commands.specs.Salvages.{SalvageEnds}
 use Rattle.tool_commands.specs.declared.status.Status.{Status}
 use Rattle.tool_commands.specs.declared.status.Status.TheVariants as status
 use Rattle.tool_commands.specs.declared.words.Wanted.{Wanted}
@@ -63,25 +64,26 @@ abbrev pub command_wanted : List ℕ → Option ℕ → Wanted
 command_wanted command None = asks.Nothing
 command_wanted command (Some number) = command_on command number
 
--- the version of the copy that the command of this name makes
-abbrev pub target_named : List ℕ → Option Target
-target_named command =
-    if bytes_eq command (codes "repack") then Some target.Same else
-    if bytes_eq command (codes "widen") then Some target.Wide else
-    if bytes_eq command (codes "narrow") then Some target.Narrow else None
+-- the command over two files that has this name, from the device of one number to that of the other
+abbrev pub command_between : List ℕ → ℕ → ℕ → Wanted
+command_between command from to =
+    if bytes_eq command (codes "repack") then asks.Copy target.Same from to else
+    if bytes_eq command (codes "widen") then asks.Copy target.Wide from to else
+    if bytes_eq command (codes "narrow") then asks.Copy target.Narrow from to else
+    if bytes_eq command (codes "salvage") then asks.Salvage from to else asks.Nothing
 
-abbrev pub copy_between : Option Target → Option ℕ → Option ℕ → Wanted
-copy_between (Some version) (Some from) (Some to) = asks.Copy version from to
-copy_between version from to = asks.Nothing
+abbrev pub between_wanted : List ℕ → Option ℕ → Option ℕ → Wanted
+between_wanted command (Some from) (Some to) = command_between command from to
+between_wanted command from to = asks.Nothing
 
--- a copy of one file into another one
-abbrev pub copy_wanted : List ℕ → List ℕ → List ℕ → List SlotState → Wanted
-copy_wanted command from to slots = if bytes_eq from to then asks.Nothing else copy_between (target_named command) (file_number slots from) (file_number slots to)
+-- the command from one file to another one
+abbrev pub pair_wanted : List ℕ → List ℕ → List ℕ → List SlotState → Wanted
+pair_wanted command from to slots = if bytes_eq from to then asks.Nothing else between_wanted command (file_number slots from) (file_number slots to)
 
 -- `COMMAND FILE` or `COMMAND A B`, with different files that are on the shelf
 abbrev pub files_wanted : List (List ℕ) → List SlotState → Wanted
 files_wanted (command ∷ file ∷ []) slots = command_wanted command (file_number slots file)
-files_wanted (command ∷ from ∷ to ∷ []) slots = copy_wanted command from to slots
+files_wanted (command ∷ from ∷ to ∷ []) slots = pair_wanted command from to slots
 files_wanted words slots = asks.Nothing
 
 -- what the words ask for
@@ -91,6 +93,7 @@ wanted words slots = if is_session words slots then asks.Session else files_want
 -- under a number that is asked for a device stands, under two numbers two devices
 abbrev pub IsOnShelf : Wanted → List SlotState → Type 0
 IsOnShelf (asks.Copy version from to) slots = (from ≢ to) × IsSome (device_at slots from) × IsSome (device_at slots to)
+IsOnShelf (asks.Salvage from to) slots = (from ≢ to) × IsSome (device_at slots from) × IsSome (device_at slots to)
 IsOnShelf (asks.Init wide number) slots = IsSome (device_at slots number)
 IsOnShelf (asks.Lint number) slots = IsSome (device_at slots number)
 IsOnShelf (asks.Map number) slots = IsSome (device_at slots number)
@@ -137,7 +140,7 @@ pub record Reports (says : DeviceState → DeviceState → Report → List ℕ �
 abbrev pub OnDevice : ℕ → (DeviceState → DeviceState → Type 0) → List SlotState → List SlotState → Type 0
 OnDevice n Did old new = (device : DeviceState) × (after : DeviceState) × (device_at old n ≡ Some device) × (new ≡ with_device old n after) × Did device after
 
--- ---- copies
+-- ---- copies and salvages
 
 -- A command on the devices of two numbers did this to them, and all other devices are as they were.
 pub record OnDevices (from to : ℕ) (Did : DeviceState → DeviceState → DeviceState → DeviceState → Type 0) (old new : List SlotState) : Type 0 where
@@ -197,7 +200,7 @@ pub record SessionEnds (how : Ended) (old new : List SlotState) (before now : St
 
 -- ---- all commands
 
--- how a run ends, and what it leaves on the shelf: without right words the usage line; else the fresh file or a report on the device of that number alone, a copy between the devices of two numbers, or a session over all
+-- how a run ends, and what it leaves on the shelf: without right words the usage line; else the fresh file or a report on the device of that number alone, a copy of a file or of its sound part between the devices of two numbers, or a session over all
 abbrev pub RunEnds : Wanted → Status → List SlotState → List SlotState → Streams → Streams → Type 0
 RunEnds asks.Nothing result old new before now = (new ≡ old) × EndsWith status.Usage usage result before.taken now.taken before.sink_faults now.sink_faults × InputStays before now
 RunEnds (asks.Init wide n) result old new before now =
@@ -209,5 +212,9 @@ RunEnds (asks.Map n) result old new before now =
 RunEnds (asks.Copy version from to) result old new before now =
     OnDevices from to (λ source source_after target target_after.
     CopyEnds version result source source_after target target_after before.taken now.taken before.sink_faults now.sink_faults) old new
+    × InputStays before now
+RunEnds (asks.Salvage from to) result old new before now =
+    OnDevices from to (λ source source_after target target_after.
+    SalvageEnds result source source_after target target_after before.taken now.taken before.sink_faults now.sink_faults) old new
     × InputStays before now
 RunEnds asks.Session result old new before now = (how : Ended) × (result ≡ session_status how) × SessionEnds how old new before now

@@ -3,12 +3,15 @@
 ghost use Rattle.std.specs.Prelude.{◌≡◌, ◌≢◌, IsSome, map, string_bytes};
 ghost use Rattle.tool_commands.specs.Copies.{CopyEnds};
 ghost use Rattle.tool_commands.specs.Printed.{EndsWith};
+ghost use Rattle.tool_commands.specs.Salvages.{SalvageEnds};
 ghost use Rattle.tool_commands.specs.Tool.{InitEnds, OnDevice, OnDevices, Reports, RunEnds, SessionEnds, init_line, init_status, report_status, session_status, usage, wanted};
 ghost use Rattle.layout_report.specs.Reports.{Linted, Mapped};
 ghost use Rattle.adf_library.specs.Shelf.{slots_of, device_at, IsShelf, IsWhole};
 
 use crate::copies::{Copied, copy_file, tell_copy};
+use crate::pairs::{put_both_back, take_both};
 use crate::printing::ended;
+use crate::salvages::{Salvage, salvage_file, tell_salvage};
 use crate::status::Status;
 use crate::words::{Wanted, read_words};
 use adf_library::{Library, Shelf};
@@ -167,20 +170,45 @@ fn copy_on<D: Device, O: Sink>(
     ensures whole { IsWhole shelf.new }
     ensures shelf { IsShelf shelf.new }
 {
-    let Some(source) = shelf.take(from) else {
-        unreachable!()
-    };
-    let Some(target) = shelf.take(to) else {
-        unreachable!()
-    };
+    let (source, target) = take_both(shelf, from, to);
     let Copied {
         source,
         target,
         made,
     } = copy_file(alloc, source, target, version);
     let status = tell_copy(alloc, &made, output);
-    shelf.put_back(from, source);
-    shelf.put_back(to, target);
+    put_both_back(shelf, from, source, to, target);
+    status
+}
+
+// A copy of the sound part of the file of one device into another device.
+fn salvage_on<D: Device, O: Sink>(
+    alloc: Global,
+    from: u32,
+    to: u32,
+    shelf: &mut Shelf<D>,
+    output: &mut O,
+) -> Status
+    requires whole { IsWhole shelf.old }
+    requires shelf { IsShelf shelf.old }
+    requires apart { from ≢ to }
+    requires source { IsSome (device_at (slots_of D.state shelf.old) from) }
+    requires target { IsSome (device_at (slots_of D.state shelf.old) to) }
+    ensures salvage { OnDevices from to (λ source source_after target target_after.
+        SalvageEnds result source source_after target target_after (O.taken output.old)
+        (O.taken output.new) (O.faults output.old) (O.faults output.new))
+        (slots_of D.state shelf.old) (slots_of D.state shelf.new) }
+    ensures whole { IsWhole shelf.new }
+    ensures shelf { IsShelf shelf.new }
+{
+    let (source, target) = take_both(shelf, from, to);
+    let Salvage {
+        source,
+        target,
+        made,
+    } = salvage_file(alloc, source, target);
+    let status = tell_salvage(alloc, &made, output);
+    put_both_back(shelf, from, source, to, target);
     status
 }
 
@@ -272,6 +300,7 @@ pub fn run_on<D: Device, I: Source, O: Sink>(
         Wanted::Lint(number) => lint_on(alloc, number, shelf, output),
         Wanted::Map(number) => map_on(alloc, number, shelf, output),
         Wanted::Copy { target, from, to } => copy_on(alloc, target, from, to, shelf, output),
+        Wanted::Salvage { from, to } => salvage_on(alloc, from, to, shelf, output),
         Wanted::Session => session_status_of(session_on(alloc, shelf, input, output)),
     }
 }

@@ -14,8 +14,8 @@ use call_script::{Answer, reply_text};
 use cg_io::{Device, Sink};
 use std::alloc::{AllocError, Global};
 
-// How many blocks of the file that is copied are kept in memory.
-const KEPT_BLOCKS: usize = 256;
+/// How many blocks of the file that is copied are kept in memory.
+pub const KEPT_BLOCKS: usize = 256;
 
 /// Two devices behind a copy of the file of the first into the second, and the last byte of the copy or why there is none.
 #[derive(Drop)]
@@ -70,8 +70,8 @@ fn refusal_line(alloc: Global, error: AdfError) -> Result<Vec<u8>, AllocError>
     Ok(line)
 }
 
-// The line of a copy, with its line feed.
-fn line_of(alloc: Global, made: &Result<u64, AdfError>) -> Result<Vec<u8>, AllocError>
+/// The line of a copy, with its line feed.
+pub fn line_of(alloc: Global, made: &Result<u64, AdfError>) -> Result<Vec<u8>, AllocError>
     requires { IfErr made.now NamesRule }
     ensures { IfOk result (λ line. line.items ≡ copy_line made.now) }
 {

@@ -5,7 +5,9 @@
 
 mod commands;
 mod copies;
+mod pairs;
 mod printing;
+mod salvages;
 mod status;
 mod words;
 

@@ -2,7 +2,7 @@
 
 ghost use Rattle.std.specs.Prelude.{◌≡◌, map, string_bytes, IfSome, IsSome};
 ghost use Rattle.std.specs.List.{list_all};
-ghost use Rattle.tool_commands.specs.Tool.{IsOnShelf, command_on, file_number, is_file_word, is_session, names_device, copy_wanted, files_wanted, target_named, wanted};
+ghost use Rattle.tool_commands.specs.Tool.{IsOnShelf, command_between, command_on, file_number, is_file_word, is_session, names_device, pair_wanted, files_wanted, wanted};
 ghost use Rattle.adf_library.specs.Shelf.{slots_of, device_at, IsShelf, IsWhole};
 
 use adf_library::Shelf;
@@ -22,6 +22,8 @@ pub enum Wanted {
     Map(u32),
     /// A packed copy of the file of one device into another device, in a version.
     Copy { target: Target, from: u32, to: u32 },
+    /// A packed copy of the sound part of the file of one device into another device.
+    Salvage { from: u32, to: u32 },
     /// A session over the files of the shelf.
     Session,
 }
@@ -66,42 +68,53 @@ fn command_on(command: &str, number: u32) -> Wanted
     }
 }
 
-// The version of the copy that the command of this name makes.
-fn target_named(command: &str) -> Option<Target>
-    ensures { result ≡ target_named command.now }
+// The command over two files that has this name, from the device of one number to that of the other.
+fn command_between(command: &str, from: u32, to: u32) -> Wanted
+    ensures { result ≡ command_between command.now from to }
 {
     if command == "repack" {
-        Some(Target::Same)
+        Wanted::Copy {
+            target: Target::Same,
+            from,
+            to,
+        }
     } else if command == "widen" {
-        Some(Target::Wide)
+        Wanted::Copy {
+            target: Target::Wide,
+            from,
+            to,
+        }
     } else if command == "narrow" {
-        Some(Target::Narrow)
+        Wanted::Copy {
+            target: Target::Narrow,
+            from,
+            to,
+        }
+    } else if command == "salvage" {
+        Wanted::Salvage { from, to }
     } else {
-        None
+        Wanted::Nothing
     }
 }
 
-// The copy of one file into another one.
-fn copy_wanted<D: Device>(command: &str, from: &str, to: &str, shelf: &Shelf<D>) -> Wanted
+// The command from one file to another one.
+fn pair_wanted<D: Device>(command: &str, from: &str, to: &str, shelf: &Shelf<D>) -> Wanted
     requires whole { IsWhole shelf.now }
     requires shelf { IsShelf shelf.now }
-    ensures wanted { result ≡ copy_wanted command.now from.now to.now
+    ensures wanted { result ≡ pair_wanted command.now from.now to.now
         (slots_of D.state shelf.now) }
     ensures stands { IsOnShelf result (slots_of D.state shelf.now) }
 {
     if from == to {
         return Wanted::Nothing;
     }
-    let Some(target) = target_named(command) else {
-        return Wanted::Nothing;
-    };
     let Some(from) = file_number(shelf, from) else {
         return Wanted::Nothing;
     };
     let Some(to) = file_number(shelf, to) else {
         return Wanted::Nothing;
     };
-    Wanted::Copy { target, from, to }
+    command_between(command, from, to)
 }
 
 // What is wanted where the words are not those of a session.
@@ -117,7 +130,7 @@ fn files_wanted<D: Device>(words: &[String], shelf: &Shelf<D>) -> Wanted
             Some(number) => command_on(command.as_str(), number),
             None => Wanted::Nothing,
         },
-        [command, from, to] => copy_wanted(command.as_str(), from.as_str(), to.as_str(), shelf),
+        [command, from, to] => pair_wanted(command.as_str(), from.as_str(), to.as_str(), shelf),
         _ => Wanted::Nothing,
     }
 }
