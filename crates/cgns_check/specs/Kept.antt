@@ -1,5 +1,5 @@
 -- What is kept of the base and of the zone above a node.
-use Rattle.std.specs.Prelude.{◌≡◌, ℕ, Bool, true, false, ◌&&◌, ◌==◌, if◌then◌else◌, Option, Some, None, option_map, Result, Ok, Err}
+use Rattle.std.specs.Prelude.{◌≡◌, ℕ, ℤ, List, Bool, true, false, ◌&&◌, ◌==◌, if◌then◌else◌, Option, Some, None, option_map, Result, Ok, Err}
 use Rattle.adf_model.specs.declared.error.AdfError.{AdfError}
 use Rattle.adf_model.specs.declared.error.AdfError.TheVariants.{Memory, ReadFault}
 use Rattle.adf_model.specs.declared.tree.NodeId.{NodeId}
@@ -9,8 +9,10 @@ use Rattle.element_ranges.specs.Notes.{note_of}
 use Rattle.sids_views.specs.Asks.{IsValueOr}
 use Rattle.sids_views.specs.Views.{is_same_node}
 use Rattle.sids_rules.specs.declared.seen.Seen.{Seen}
-use Rattle.sids_readings.specs.Around.{base_around, zone_numbers}
+use Rattle.sids_readings.specs.Around.{base_around, zone_numbers, sizes_around, surroundings}
+use Rattle.sids_node_rules.specs.Fields.{dims_under}
 use Rattle.sids_section_rules.specs.Noted.{note_there}
+use Rattle.sids_broken.specs.NodeTests.{dims_beside}
 use Rattle.cgns_check.specs.declared.rule_finder.RuleFinder.{RuleFinder}
 
 -- two are the same node, or both are none
@@ -49,6 +51,7 @@ pub record Recalls (files : Files) (finder : RuleFinder) : Type 0 where
   pub base : finder.around.base ≡ base_around files finder.base
   pub zone : finder.around.zone ≡ option_map (zone_numbers files) finder.zone
   pub notes : (q : ℕ) → note_of finder.notes q ≡ note_around files finder.zone q
+  pub dims : finder.dims ≡ dims_under files (sizes_around finder.around.zone) finder.holder
 
 -- what is kept is what is read of a base; or want of memory, or a failed read
 abbrev pub IsBaseKept : Files → Option NodeId → RuleFinder → Result Unit AdfError → Type 0
@@ -64,3 +67,23 @@ pub record KeepsZone (files : Files) (zone : Option NodeId) (finder : RuleFinder
 abbrev pub IsZoneKept : Files → Option NodeId → RuleFinder → Result Unit AdfError → Type 0
 IsZoneKept files above finder (Ok done) = KeepsZone files above finder
 IsZoneKept files above finder (Err error) = IsValueOr {A = Unit {0}} tt (Err error)
+
+-- the dimensions that the arrays under a node are to have, where it is the grid or the solution that is kept
+abbrev pub known_dims : RuleFinder → Option NodeId → Option (List ℤ)
+known_dims finder parent = if is_same_place finder.holder parent then finder.dims else None
+
+-- those are the dimensions under the node; or want of memory, or a failed read
+abbrev pub AreDimsKept : Files → Option NodeId → RuleFinder → Result Unit AdfError → Type 0
+AreDimsKept files parent finder (Ok done) = known_dims finder parent ≡ dims_under files (sizes_around finder.around.zone) parent
+AreDimsKept files parent finder (Err error) = IsValueOr {A = Unit {0}} tt (Err error)
+
+-- what is kept is what rules read around a seen node
+pub record KeepsAround (files : Files) (seen : Seen) (finder : RuleFinder) : Type 0 where
+  pub around : finder.around ≡ surroundings files seen
+  pub notes : (q : ℕ) → note_of finder.notes q ≡ note_around files seen.zone q
+  pub dims : known_dims finder seen.parent ≡ dims_beside files seen
+
+-- that; or want of memory, or a failed read
+abbrev pub IsAroundKept : Files → Seen → RuleFinder → Result Unit AdfError → Type 0
+IsAroundKept files seen finder (Ok done) = KeepsAround files seen finder
+IsAroundKept files seen finder (Err error) = IsValueOr {A = Unit {0}} tt (Err error)

@@ -1,25 +1,31 @@
 //! What finds the rules of the checker that a node breaks.
 
-ghost use Rattle.std.specs.Prelude.{◌≡◌, ℕ, None, IfSome};
+ghost use Rattle.std.specs.Prelude.{◌≡◌, ℕ, Some, None, IfSome};
 ghost use Rattle.adf_model.specs.Causes.{OnlyAsks};
 ghost use Rattle.adf_model.specs.Slots.{IsTold};
 ghost use Rattle.element_ranges.specs.Notes.{note_of};
 ghost use Rattle.sids_views.specs.Asks.{HasAskCause, IsPlain};
+ghost use Rattle.sids_views.specs.Views.{kind_there};
+ghost use Rattle.sids_rules.specs.SeenNodes.{IsSeen};
 ghost use Rattle.sids_readings.specs.RuleSets.{rules_of};
-ghost use Rattle.cgns_check.specs.Kept.{AreNotesAround, IsBaseKept, IsZoneKept, Recalls, is_same_place, known_overlap};
+ghost use Rattle.cgns_check.specs.Kept.{AreDimsKept, AreNotesAround, IsAroundKept, IsBaseKept, IsZoneKept, Recalls, is_same_place, known_dims, known_overlap};
 
 use crate::finder::Finder;
 use adf_model::{AdfError, NodeId, Rules, TreeCalls};
 use element_ranges::OverlapNotes;
 use sids_broken::broken_by;
-use sids_readings::{RuleSet, Surroundings, base_around, zone_around};
+use sids_node_rules::{ArrayDims, dims_of, holds_arrays};
+use sids_readings::{RuleSet, Surroundings, base_around, sizes_around, zone_around};
 use sids_rules::Seen;
 use sids_section_rules::{is_same_node, overlap_notes};
+use sids_tables::LabelKind;
+use sids_views::kind_of_node;
 use std::alloc::Global;
 
 /// The rules of a set, and what they read of the base and of the zone above the last node, with the
-/// sections of the zone that overlap earlier ones: a base or a zone is read once for the nodes below it
-/// that follow one another.
+/// sections of the zone that overlap earlier ones, and of the last grid or solution that nodes are
+/// children of: a base, a zone, a grid or a solution is read once for the nodes below it that follow one
+/// another, and a grid or a solution also for those that stand between nodes below its arrays.
 #[derive(Drop)]
 pub struct RuleFinder {
     set: RuleSet,
@@ -27,6 +33,10 @@ pub struct RuleFinder {
     zone: Option<NodeId>,
     around: Surroundings,
     notes: OverlapNotes,
+    /// The grid or the solution.
+    holder: Option<NodeId>,
+    /// The dimensions that its arrays are to have, where rules speak of them.
+    dims: Option<ArrayDims>,
 }
 
 impl RuleFinder {
@@ -38,6 +48,8 @@ impl RuleFinder {
         ensures no_base { result.around.base ≡ None }
         ensures no_zone { result.around.zone ≡ None }
         ensures no_notes { (q : ℕ) → note_of result.notes q ≡ None }
+        ensures holder { result.holder ≡ None }
+        ensures no_dims { result.dims ≡ None }
     {
         RuleFinder {
             set,
@@ -48,6 +60,8 @@ impl RuleFinder {
                 zone: None,
             },
             notes: OverlapNotes::new(alloc),
+            holder: None,
+            dims: None,
         }
     }
 }
@@ -63,16 +77,48 @@ impl Finder for RuleFinder {
         calls: &mut C,
         seen: &Seen,
     ) -> Result<Rules, AdfError> {
-        match keep_base(alloc, calls, self, seen.base) {
-            Ok(()) => match keep_zone(alloc, calls, self, seen.zone) {
-                Ok(()) => {
-                    let overlaps = known_overlap(&self.notes, seen);
-                    broken_by(alloc, calls, self.set, seen, &self.around, overlaps)
-                }
-                Err(error) => Err(error),
-            },
+        match keep_around(alloc, calls, self, seen) {
+            Ok(()) => {
+                let none = None;
+                let dims = known_dims(self, seen.parent, &none);
+                let overlaps = known_overlap(&self.notes, seen);
+                broken_by(alloc, calls, self.set, seen, &self.around, dims, overlaps)
+            }
             Err(error) => Err(error),
         }
+    }
+}
+
+/// Reads the base and the zone above a node and the node that it is a child of, where they are not those
+/// that were read last.
+fn keep_around<C: TreeCalls>(
+    alloc: Global,
+    calls: &mut C,
+    finder: &mut RuleFinder,
+    seen: &Seen,
+) -> Result<(), AdfError>
+    requires ready { C.is_ready calls.old }
+    requires seen { IsTold (C.files calls.old) (C.devices calls.old)
+        → IsSeen (C.files calls.old) seen.now }
+    requires recalls { IsTold (C.files calls.old) (C.devices calls.old)
+        → Recalls (C.files calls.old) finder.old }
+    ensures ready { C.is_ready calls.new }
+    ensures only { OnlyAsks (C.files calls.old) (C.devices calls.old)
+        (C.devices calls.new) (C.files calls.new) }
+    ensures set { finder.new.set ≡ finder.old.set }
+    ensures recalls { IsTold (C.files calls.old) (C.devices calls.old)
+        → Recalls (C.files calls.old) finder.new }
+    ensures kept { IsTold (C.files calls.old) (C.devices calls.old)
+        → IsAroundKept (C.files calls.old) seen.now finder.new result }
+    ensures cause { HasAskCause (C.files calls.old) (C.devices calls.old)
+        (C.devices calls.new) result }
+{
+    match keep_base(alloc, calls, finder, seen.base) {
+        Ok(()) => match keep_zone(alloc, calls, finder, seen.zone) {
+            Ok(()) => keep_dims(alloc, calls, finder, seen.parent),
+            Err(error) => Err(error),
+        },
+        Err(error) => Err(error),
     }
 }
 
@@ -145,11 +191,113 @@ fn keep_zone<C: TreeCalls>(
                 finder.around.zone = numbers;
                 finder.notes = notes;
                 finder.zone = zone;
+                finder.holder = None;
+                finder.dims = None;
                 Ok(())
             }
             Err(error) => Err(error),
         },
         Err(error) => Err(error),
+    }
+}
+
+/// Reads the grid or the solution that a node is a child of, where it is not the one that was read last.
+fn keep_dims<C: TreeCalls>(
+    alloc: Global,
+    calls: &mut C,
+    finder: &mut RuleFinder,
+    parent: Option<NodeId>,
+) -> Result<(), AdfError>
+    requires ready { C.is_ready calls.old }
+    requires plain { IsTold (C.files calls.old) (C.devices calls.old)
+        → IfSome parent (IsPlain (C.files calls.old)) }
+    requires recalls { IsTold (C.files calls.old) (C.devices calls.old)
+        → Recalls (C.files calls.old) finder.old }
+    ensures ready { C.is_ready calls.new }
+    ensures only { OnlyAsks (C.files calls.old) (C.devices calls.old)
+        (C.devices calls.new) (C.files calls.new) }
+    ensures set { finder.new.set ≡ finder.old.set }
+    ensures around { finder.new.around ≡ finder.old.around }
+    ensures notes { finder.new.notes ≡ finder.old.notes }
+    ensures recalls { IsTold (C.files calls.old) (C.devices calls.old)
+        → Recalls (C.files calls.old) finder.new }
+    ensures kept { IsTold (C.files calls.old) (C.devices calls.old)
+        → AreDimsKept (C.files calls.old) parent finder.new result }
+    ensures cause { HasAskCause (C.files calls.old) (C.devices calls.old)
+        (C.devices calls.new) result }
+{
+    if is_same_place(finder.holder, parent) {
+        return Ok(());
+    }
+    match parent {
+        Some(at) => match kind_of_node(calls, at) {
+            Ok(kind) => {
+                if holds_arrays(kind) {
+                    keep_holder(alloc, calls, finder, kind, at)
+                } else {
+                    Ok(())
+                }
+            }
+            Err(error) => Err(error),
+        },
+        None => Ok(()),
+    }
+}
+
+/// Reads a grid or a solution.
+fn keep_holder<C: TreeCalls>(
+    alloc: Global,
+    calls: &mut C,
+    finder: &mut RuleFinder,
+    kind: LabelKind,
+    at: NodeId,
+) -> Result<(), AdfError>
+    requires ready { C.is_ready calls.old }
+    requires plain { IsTold (C.files calls.old) (C.devices calls.old)
+        → IsPlain (C.files calls.old) at }
+    requires kind { IsTold (C.files calls.old) (C.devices calls.old)
+        → kind ≡ kind_there (C.files calls.old) at }
+    requires recalls { IsTold (C.files calls.old) (C.devices calls.old)
+        → Recalls (C.files calls.old) finder.old }
+    ensures ready { C.is_ready calls.new }
+    ensures only { OnlyAsks (C.files calls.old) (C.devices calls.old)
+        (C.devices calls.new) (C.files calls.new) }
+    ensures set { finder.new.set ≡ finder.old.set }
+    ensures around { finder.new.around ≡ finder.old.around }
+    ensures notes { finder.new.notes ≡ finder.old.notes }
+    ensures recalls { IsTold (C.files calls.old) (C.devices calls.old)
+        → Recalls (C.files calls.old) finder.new }
+    ensures kept { IsTold (C.files calls.old) (C.devices calls.old)
+        → AreDimsKept (C.files calls.old) (Some at) finder.new result }
+    ensures cause { HasAskCause (C.files calls.old) (C.devices calls.old)
+        (C.devices calls.new) result }
+{
+    let none = None;
+    let sizes = sizes_around(&finder.around.zone, &none);
+    match dims_of(alloc, calls, kind, at, sizes) {
+        Ok(dims) => {
+            finder.dims = dims;
+            finder.holder = Some(at);
+            Ok(())
+        }
+        Err(error) => Err(error),
+    }
+}
+
+/// The dimensions that the arrays under a node are to have, where rules speak of them and the node was
+/// read: else the second.
+fn known_dims<'a>(
+    finder: &'a RuleFinder,
+    parent: Option<NodeId>,
+    none: &'a Option<ArrayDims>,
+) -> &'a Option<ArrayDims>
+    requires { none.now ≡ None }
+    ensures { result.now ≡ known_dims finder.now parent }
+{
+    if is_same_place(finder.holder, parent) {
+        &finder.dims
+    } else {
+        none
     }
 }
 

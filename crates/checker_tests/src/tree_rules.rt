@@ -3,10 +3,9 @@
 use crate::plain_trees::{PlainTrees, Row, Target};
 use adf_model::{AdfError, DataType, Format, NodeId};
 use sids_node_rules::{
-    breaks_array_data, breaks_bc_family, breaks_bc_points, breaks_coordinate_size,
-    breaks_coordinate_type, breaks_field_size, breaks_field_type, breaks_not_empty, breaks_place,
-    breaks_rind_data, breaks_rind_name, breaks_small_node, breaks_version, breaks_version_data,
-    breaks_zone_types,
+    breaks_array_data, breaks_bc_family, breaks_bc_points, breaks_coordinate_type, breaks_dims,
+    breaks_field_type, breaks_not_empty, breaks_place, breaks_rind_data, breaks_rind_name,
+    breaks_small_node, breaks_version, breaks_version_data, breaks_zone_types, dims_under,
 };
 use sids_offset_rules::{breaks_offset_size, breaks_start_offset, offsets_of, wants_offsets};
 use sids_readings::{
@@ -32,7 +31,7 @@ macro_rules! node {
     };
 }
 
-const ROWS: [Row<'static>; 23] = [
+const ROWS: [Row<'static>; 25] = [
     node!(b"Root", b"Root Node of ADF File", Mt [], None, [1, 2, 15]),
     node!(
         b"CGNSLibraryVersion",
@@ -130,6 +129,8 @@ const ROWS: [Row<'static>; 23] = [
         []
     ),
     node!(b"Other", b"Zone_t", Mt [], None, [4]),
+    node!(b"Vertices", b"FlowSolution_t", Mt [], None, [9]),
+    node!(b"Part", b"FlowSolution_t", Mt [], None, [11, 9]),
 ];
 
 fn at(serial: u64) -> NodeId {
@@ -356,27 +357,23 @@ fn breaks_in(
     if rule > 22 {
         return breaks_in_section(alloc, calls, rule, at(serial), at(parent));
     }
-    match zone_sizes(alloc, calls, at(3))? {
-        Some(sizes) => {
-            if rule == 17 {
-                breaks_coordinate_size(alloc, calls, at(serial), at(parent), &sizes)
-            } else {
-                breaks_field_size(alloc, calls, at(serial), at(parent), &sizes)
-            }
-        }
+    let sizes = zone_sizes(alloc, calls, at(3))?;
+    match dims_under(alloc, calls, Some(at(parent)), &sizes)? {
+        Some(dims) => breaks_dims(calls, at(serial), &dims),
         None => Ok(false),
     }
 }
 
 #[test]
 fn rules_that_look_at_two_nodes_are_broken_by_some_and_not_by_others(rt: HostRuntime) {
-    let cases: [(u8, u64, u64, bool); 15] = [
+    let cases: [(u8, u64, u64, bool); 16] = [
         (17, 16, 8, false),
         (17, 13, 8, true),
         (22, 13, 17, false),
         (22, 16, 17, true),
-        (22, 16, 8, false),
-        (22, 13, 8, true),
+        (22, 16, 23, false),
+        (22, 13, 23, true),
+        (22, 13, 24, false),
         (22, 13, 5, false),
         (28, 19, 5, false),
         (28, 7, 5, true),

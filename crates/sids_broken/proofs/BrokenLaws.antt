@@ -1,6 +1,6 @@
 -- The rules of a set that a seen node breaks, by how it is seen.
-use Rattle.std.proofs.Common.{◌≡◌, ◌≢◌, ◌∙◌, ap, subst, refl, ℕ, List, [], ◌∷◌, ◌++◌}
-use Rattle.std.specs.Prelude.{Bool, Option, Some, None, IfSome, not, ◌==◌}
+use Rattle.std.proofs.Common.{◌≡◌, ◌≢◌, ◌∙◌, sym, ap, subst, refl, ℕ, ℤ, List, [], ◌∷◌, ◌++◌}
+use Rattle.std.specs.Prelude.{Bool, Option, Some, None, option_map, IfSome, not, ◌==◌}
 use Rattle.std.proofs.lemmas.List.{append-nil}
 use Rattle.adf_model.specs.declared.tree.NodeId.{NodeId}
 use Rattle.adf_model.specs.Slots.{Files}
@@ -19,8 +19,9 @@ use Rattle.sids_readings.specs.declared.rule_sets.RuleSet.TheVariants as set
 use Rattle.sids_section_rules.specs.declared.section_rules.Spot.{Spot}
 use Rattle.sids_readings.specs.RuleSets.{rules_of}
 use Rattle.sids_readings.specs.Held.{held}
-use Rattle.sids_readings.specs.Around.{surroundings}
-use Rattle.sids_broken.specs.NodeTests.{IsKnownOf, tests_at, tests_with_place}
+use Rattle.sids_readings.specs.Around.{zone_numbers, surroundings, sizes_around}
+use Rattle.sids_node_rules.specs.Fields.{dims_under}
+use Rattle.sids_broken.specs.NodeTests.{IsKnownOf, dims_beside, tests_at, tests_with_place}
 use Rattle.sids_broken.proofs.OffsetTestLaws.{numbers_append, broken_are}
 
 module _ (files : Files) (s : Seen) where
@@ -62,24 +63,26 @@ root_are files s at rules e none =
     ∙ by_check files _ _ (of_root files s.node at s.base s.zone) (no_offsets_root files s.node at s.base s.zone) rules
 
 -- what is known of K30 changes no test
-tests_alike : (rules : RuleSet) (k : LabelKind) (files : Files) (node at parent : NodeId) (zone : Option NodeId) (known : Option Bool) (around : Surroundings)
-    → tests_with_place rules k files (record { node = node; at = at; parent = parent; zone = zone; overlaps = None }) around
-    ≡ tests_with_place rules k files (record { node = node; at = at; parent = parent; zone = zone; overlaps = known }) around
-tests_alike rules k files node at parent zone known around = by k
+tests_alike : (rules : RuleSet) (k : LabelKind) (files : Files) (node at parent : NodeId) (zone : Option NodeId) (known : Option Bool) (around : Surroundings) (dims : Option (List ℤ))
+    → tests_with_place rules k files (record { node = node; at = at; parent = parent; zone = zone; overlaps = None }) around dims
+    ≡ tests_with_place rules k files (record { node = node; at = at; parent = parent; zone = zone; overlaps = known }) around dims
+tests_alike rules k files node at parent zone known around dims = by k
   where
-    by : (k : LabelKind) → tests_with_place rules k files (record { node = node; at = at; parent = parent; zone = zone; overlaps = None }) around
-        ≡ tests_with_place rules k files (record { node = node; at = at; parent = parent; zone = zone; overlaps = known }) around
+    by : (k : LabelKind) → tests_with_place rules k files (record { node = node; at = at; parent = parent; zone = zone; overlaps = None }) around dims
+        ≡ tests_with_place rules k files (record { node = node; at = at; parent = parent; zone = zone; overlaps = known }) around dims
     by Other = refl
     by _ = refl
 
 -- any other node
 pub others_are : (files : Files) (s : Seen) (at parent : NodeId) (k : LabelKind) (rules : RuleSet) (known : Option Bool) → s.target ≡ Some at → s.parent ≡ Some parent → kind_there files at ≡ k
-    → broken_numbers (rules_of rules) files s ≡ held (tests_with_place rules k files (record { node = s.node; at = at; parent = parent; zone = s.zone; overlaps = known }) (surroundings files s))
+    → broken_numbers (rules_of rules) files s ≡ held (tests_with_place rules k files (record { node = s.node; at = at; parent = parent; zone = s.zone; overlaps = known }) (surroundings files s) (dims_beside files s))
 others_are files s at parent k rules known e there is =
     ap (λ t. broken_numbers (rules_of rules) files (record { node = s.node; target = t; parent = s.parent; base = s.base; zone = s.zone })) e
     ∙ ap (λ p. broken_numbers (rules_of rules) files (record { node = s.node; target = Some at; parent = p; base = s.base; zone = s.zone })) there
     ∙ broken_are files s.node at parent s.base s.zone rules k is
-    ∙ ap held (tests_alike rules k files s.node at parent s.zone known (surroundings files s))
+    ∙ ap held (tests_alike rules k files s.node at parent s.zone known (surroundings files s) (dims_under files (sizes_around (option_map (zone_numbers files) s.zone)) (Some parent)))
+    ∙ ap (λ p. held (tests_with_place rules k files (record { node = s.node; at = at; parent = parent; zone = s.zone; overlaps = known }) (surroundings files s)
+    (dims_under files (sizes_around (option_map (zone_numbers files) s.zone)) p))) (sym there)
 
 -- what is known of K30 on a node, by where it stands
 pub known_spot : (files : Files) (s : Seen) (at parent : NodeId) (known : Option Bool) → s.target ≡ Some at → s.parent ≡ Some parent → IsKnownOf files s known
@@ -90,7 +93,7 @@ known_spot files s at parent (Some known) e there h =
     subst (λ p. met (Some at) p) there (subst (λ t. met t s.parent) e h)
 
 -- the rule of places comes first, of a node in the profile
-pub place_first : (rules : RuleSet) (k : LabelKind) (files : Files) (spot : Spot) (around : Surroundings) → k ≢ Other
-    → tests_with_place rules k files spot around ≡ (2, not (is_allowed (place_kind files spot.parent) k)) ∷ tests_at rules k files spot around
-place_first rules Other files spot around h = absurd (h refl)
-place_first rules _ files spot around h = refl
+pub place_first : (rules : RuleSet) (k : LabelKind) (files : Files) (spot : Spot) (around : Surroundings) (dims : Option (List ℤ)) → k ≢ Other
+    → tests_with_place rules k files spot around dims ≡ (2, not (is_allowed (place_kind files spot.parent) k)) ∷ tests_at rules k files spot around dims
+place_first rules Other files spot around dims h = absurd (h refl)
+place_first rules _ files spot around dims h = refl

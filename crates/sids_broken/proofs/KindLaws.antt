@@ -1,5 +1,5 @@
 -- The rules of `check` that a node breaks are the tests on it that hold, by what its label says that it is.
-use Rattle.std.proofs.Common.{◌≡◌, ◌∙◌, ap, refl, ℤ, Bool, true, false, [], ◌∷◌, ◌||◌}
+use Rattle.std.proofs.Common.{◌≡◌, ◌∙◌, ap, refl, ℤ, Bool, true, false, List, [], ◌∷◌, ◌||◌}
 use Rattle.std.specs.Prelude.{Option, Some, None, option_map, not, ◌&&◌}
 use Rattle.adf_format.specs.declared.types.DataType.TheVariants.{C1}
 use Rattle.adf_model.specs.declared.tree.NodeId.{NodeId}
@@ -17,7 +17,8 @@ use Rattle.sids_readings.specs.Held.{held}
 use Rattle.sids_readings.specs.Around.{zone_numbers, surroundings, sizes_around, limit_with, limit_around}
 use Rattle.sids_section_rules.specs.Entries.{has_no_vertex}
 use Rattle.sids_node_rules.specs.NodeRules.{is_no_coordinate, is_no_field}
-use Rattle.sids_node_rules.specs.KindTests.{tests_in}
+use Rattle.sids_node_rules.specs.Fields.{dims_of, dims_under}
+use Rattle.sids_node_rules.specs.KindTests.{tests_in, coordinate_tests, field_tests}
 use Rattle.sids_section_rules.specs.SectionTests.{has_bad_vertex}
 use Rattle.sids_readings.specs.declared.around.Surroundings.{Surroundings}
 use Rattle.sids_readings.specs.declared.rule_sets.RuleSet.TheVariants as set
@@ -30,6 +31,10 @@ use Rattle.sids_readings.proofs.HeldLaws.{two_before}
 behind_two : (b : Bool) → (b || false || false) ≡ b
 behind_two true = refl
 behind_two false = refl
+
+and_false : (b : Bool) → (b && false) ≡ false
+and_false true = refl
+and_false false = refl
 
 behind_three : (b : Bool) → (b || false || false || false) ≡ b
 behind_three true = refl
@@ -67,6 +72,24 @@ by_place GridCoordinates a b c d = refl
 by_place FlowSolution a b c d = refl
 by_place _ a b c d = refl
 
+both_given : {A : Type 0} (b : Bool) (o : Option A) (test : A → Bool) → (b && given o test) ≡ given o (λ a. b && test a)
+both_given true None test = refl
+both_given false None test = refl
+both_given b (Some a) test = refl
+
+-- K17 coordinate-size and K22 field-size, by the dimensions that are to be under a node of a kind
+sizes_off : (files : Files) (at parent : NodeId) (k : LabelKind) (sizes : Option Sizes)
+    → held (tests_in k
+    ((16, is_no_coordinate files at) ∷ (17, is_filled files at && given sizes (λ s. not (are_dims (node_there files at).dims (coordinate_dims files parent s)))) ∷ [])
+    ((21, is_no_field files at) ∷ (22, is_filled files at && given sizes (λ s. given (field_dims files parent s) (λ wanted. not (are_dims (node_there files at).dims wanted)))) ∷ []))
+    ≡ held (tests_in k (coordinate_tests files (dims_of k files parent sizes) at) (field_tests files (dims_of k files parent sizes) at))
+sizes_off files at parent GridCoordinates None = ap (λ b. held ((16, is_no_coordinate files at) ∷ (17, b) ∷ [])) (and_false (is_filled files at))
+sizes_off files at parent GridCoordinates (Some s) = refl
+sizes_off files at parent FlowSolution None = ap (λ b. held ((21, is_no_field files at) ∷ (22, b) ∷ [])) (and_false (is_filled files at))
+sizes_off files at parent FlowSolution (Some s) =
+    ap (λ b. held ((21, is_no_field files at) ∷ (22, b) ∷ [])) (both_given (is_filled files at) (field_dims files parent s) (λ wanted. not (are_dims (node_there files at).dims wanted)))
+sizes_off files at parent _ sizes = refl
+
 -- K29 connectivity-nodes, with the limit that is around
 vertices : (files : Files) (zone : Option NodeId) (section : Option Section)
     → given section (λ s. given zone (λ at. given (zone_sizes files at) (λ sizes. has_no_vertex s.head s.range (vertex_limit files at sizes) files s.connectivity)))
@@ -84,15 +107,18 @@ module _ (files : Files) (node at parent : NodeId) (base zone : Option NodeId) w
   abbrev around : Surroundings
   around = surroundings files (seen files node at parent base zone)
 
+  abbrev sizes : Option Sizes
+  sizes = sizes_around (option_map (zone_numbers files) zone)
+
+  abbrev dims : Option (List ℤ)
+  dims = dims_under files sizes (Some parent)
+
   abbrev Law : LabelKind → Type 0
-  Law k = broken_numbers check_rules files (seen files node at parent base zone) ≡ held (tests_with_place set.Check k files spot around)
+  Law k = broken_numbers check_rules files (seen files node at parent base zone) ≡ held (tests_with_place set.Check k files spot around dims)
 
   by_zone : kind_there files at ≡ Zone → (b : Option NodeId) → base ≡ b → Law Zone
   by_zone is None e = of_zone files node at parent base zone is ∙ rw (is, e) refl
   by_zone is (Some above) e = of_zone files node at parent base zone is ∙ rw (is, e) refl
-
-  abbrev sizes : Option Sizes
-  sizes = sizes_around (option_map (zone_numbers files) zone)
 
   by_array : kind_there files at ≡ DataArray → Law DataArray
   by_array is =
@@ -101,7 +127,8 @@ module _ (files : Files) (node at parent : NodeId) (base zone : Option NodeId) w
       (by_place (kind_there files parent) (is_no_coordinate files at)
       (is_filled files at && given sizes (λ s. not (are_dims (node_there files at).dims (coordinate_dims files parent s))))
       (is_no_field files at)
-      (is_filled files at && given sizes (λ s. given (field_dims files parent s) (λ wanted. not (are_dims (node_there files at).dims wanted))))))
+      (is_filled files at && given sizes (λ s. given (field_dims files parent s) (λ wanted. not (are_dims (node_there files at).dims wanted))))
+      ∙ sizes_off files at parent (kind_there files parent) sizes))
 
   by_section : kind_there files at ≡ Elements → Law Elements
   by_section is =

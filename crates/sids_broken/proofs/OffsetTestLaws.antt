@@ -29,7 +29,7 @@ use Rattle.sids_readings.specs.Around.{zone_numbers, surroundings, limit_around}
 use Rattle.sids_offset_rules.specs.Pieces.{piece_fault}
 use Rattle.sids_section_rules.specs.SectionTests.{section_parts}
 use Rattle.sids_offset_rules.specs.OffsetTests.{lacks_list, is_list_off, listed, is_bad_piece, is_bad_node, lacks_face, piece_tests, offset_tests}
-use Rattle.sids_broken.specs.NodeTests.{tests_with_place}
+use Rattle.sids_broken.specs.NodeTests.{dims_beside, tests_with_place}
 use Rattle.sids_readings.proofs.TextLaws.{or_false}
 use Rattle.sids_readings.proofs.HeldLaws.{held_append, two_before}
 use Rattle.sids_broken.proofs.KindLaws.{same_given, within_limit, law}
@@ -184,6 +184,9 @@ module _ (files : Files) (node at parent : NodeId) (base zone : Option NodeId) w
   abbrev around : Surroundings
   around = surroundings files s
 
+  abbrev dims : Option (List ℤ)
+  dims = dims_beside files s
+
   elsewhere : (k : LabelKind) → kind_eq.ghosts.eq k Elements ≡ false → kind_there files at ≡ k → broken_numbers offset_rules files s ≡ []
   unfolding offset_rules
   elsewhere k other is = rw (is, other) refl
@@ -196,12 +199,12 @@ module _ (files : Files) (node at parent : NodeId) (base zone : Option NodeId) w
       (numbers_are files zone (listed files (section_there files at) (offset_child files at))))
 
   abbrev Law : LabelKind → Type 0
-  Law k = broken_numbers check4_rules files s ≡ held (tests_with_place set.Check4 k files spot around)
+  Law k = broken_numbers check4_rules files s ≡ held (tests_with_place set.Check4 k files spot around dims)
 
   both_lists : broken_numbers check4_rules files s ≡ broken_numbers check_rules files s ++ broken_numbers offset_rules files s
   both_lists = numbers_append check_rules offset_rules files s
 
-  as_before : (k : LabelKind) → kind_eq.ghosts.eq k Elements ≡ false → kind_there files at ≡ k → broken_numbers check4_rules files s ≡ held (tests_with_place set.Check k files spot around)
+  as_before : (k : LabelKind) → kind_eq.ghosts.eq k Elements ≡ false → kind_there files at ≡ k → broken_numbers check4_rules files s ≡ held (tests_with_place set.Check k files spot around dims)
   as_before k other is =
       both_lists ∙ ap (λ ns. broken_numbers check_rules files s ++ ns) (elsewhere k other is) ∙ append-nil (broken_numbers check_rules files s) ∙ law files node at parent base zone k is
 
@@ -209,11 +212,11 @@ module _ (files : Files) (node at parent : NodeId) (base zone : Option NodeId) w
   law4 Elements is =
       both_lists
       ∙ ap (λ ns. ns ++ broken_numbers offset_rules files s) (law files node at parent base zone Elements is)
-      ∙ ap (λ ns. held (tests_with_place set.Check Elements files spot around) ++ ns) (offset_law is)
-      ∙ sym (held_append (tests_with_place set.Check Elements files spot around) (offset_tests files zone (limit_around around.zone) (section_parts files at) (offset_child files at)))
+      ∙ ap (λ ns. held (tests_with_place set.Check Elements files spot around dims) ++ ns) (offset_law is)
+      ∙ sym (held_append (tests_with_place set.Check Elements files spot around dims) (offset_tests files zone (limit_around around.zone) (section_parts files at) (offset_child files at)))
   law4 other is = as_before other refl is
 
   -- the rules of a set that a node breaks
-  pub broken_are : (rules : RuleSet) (k : LabelKind) → kind_there files at ≡ k → broken_numbers (rules_of rules) files s ≡ held (tests_with_place rules k files spot around)
+  pub broken_are : (rules : RuleSet) (k : LabelKind) → kind_there files at ≡ k → broken_numbers (rules_of rules) files s ≡ held (tests_with_place rules k files spot around dims)
   broken_are set.Check k is = law files node at parent base zone k is
   broken_are set.Check4 k is = law4 k is

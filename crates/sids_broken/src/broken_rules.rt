@@ -10,13 +10,13 @@ ghost use Rattle.sids_rules.specs.OffsetRules.{check4_rules};
 ghost use Rattle.sids_readings.specs.RuleSets.{rules_of};
 ghost use Rattle.sids_readings.specs.Held.{held};
 ghost use Rattle.sids_readings.specs.Around.{surroundings};
-ghost use Rattle.sids_broken.specs.NodeTests.{IsSpot, IsKnownOf, tests_at, tests_with_place};
+ghost use Rattle.sids_broken.specs.NodeTests.{IsSpot, IsKnownOf, dims_beside, tests_at, tests_with_place};
 
 use crate::element_rules::with_section_rules;
 use adf_model::{AdfError, NodeId, Rules, TreeCalls};
 use sids_node_rules::{
-    breaks_place, breaks_version, with_array_rules, with_base_rules, with_condition_rules,
-    with_rind_rules, with_single_rule, with_zone_rules,
+    ArrayDims, breaks_place, breaks_version, dims_under, with_array_rules, with_base_rules,
+    with_condition_rules, with_rind_rules, with_single_rule, with_zone_rules,
 };
 use sids_readings::{
     RuleSet, Surroundings, limit_around, one_rule, sizes_around, surroundings_of, with_rule,
@@ -41,7 +41,7 @@ pub fn broken<C: TreeCalls>(alloc: Global, calls: &mut C, seen: &Seen) -> Result
         (C.devices calls.new) result }
 {
     match surroundings_of(alloc, calls, seen) {
-        Ok(around) => broken_by(alloc, calls, RuleSet::Check, seen, &around, None),
+        Ok(around) => broken_around(alloc, calls, RuleSet::Check, seen, &around),
         Err(error) => Err(error),
     }
 }
@@ -60,19 +60,51 @@ pub fn broken4<C: TreeCalls>(alloc: Global, calls: &mut C, seen: &Seen) -> Resul
         (C.devices calls.new) result }
 {
     match surroundings_of(alloc, calls, seen) {
-        Ok(around) => broken_by(alloc, calls, RuleSet::Check4, seen, &around, None),
+        Ok(around) => broken_around(alloc, calls, RuleSet::Check4, seen, &around),
         Err(error) => Err(error),
     }
 }
 
 /// The rules of a set that a seen node breaks, rising, for one who knows what the rules read of the base
-/// and of the zone above it, and maybe whether it breaks K30.
+/// and of the zone above it.
+fn broken_around<C: TreeCalls>(
+    alloc: Global,
+    calls: &mut C,
+    set: RuleSet,
+    seen: &Seen,
+    around: &Surroundings,
+) -> Result<Rules, AdfError>
+    requires ready { C.is_ready calls.old }
+    requires seen { IsTold (C.files calls.old) (C.devices calls.old)
+        → IsSeen (C.files calls.old) seen.now }
+    requires around { IsTold (C.files calls.old) (C.devices calls.old)
+        → around.now ≡ surroundings (C.files calls.old) seen.now }
+    ensures ready { C.is_ready calls.new }
+    ensures only { OnlyAsks (C.files calls.old) (C.devices calls.old)
+        (C.devices calls.new) (C.files calls.new) }
+    ensures rules { IsTold (C.files calls.old) (C.devices calls.old)
+        → IsValueOr (broken_numbers (rules_of set) (C.files calls.old) seen.now) result }
+    ensures cause { HasAskCause (C.files calls.old) (C.devices calls.old)
+        (C.devices calls.new) result }
+{
+    let none = None;
+    let sizes = sizes_around(&around.zone, &none);
+    match dims_under(alloc, calls, seen.parent, sizes) {
+        Ok(dims) => broken_by(alloc, calls, set, seen, around, &dims, None),
+        Err(error) => Err(error),
+    }
+}
+
+/// The rules of a set that a seen node breaks, rising, for one who knows what the rules read of the base
+/// and of the zone above it, the dimensions that arrays beside it are to have, and maybe whether it
+/// breaks K30.
 pub fn broken_by<C: TreeCalls>(
     alloc: Global,
     calls: &mut C,
     set: RuleSet,
     seen: &Seen,
     around: &Surroundings,
+    dims: &Option<ArrayDims>,
     overlaps: Option<bool>,
 ) -> Result<Rules, AdfError>
     requires ready { C.is_ready calls.old }
@@ -80,6 +112,8 @@ pub fn broken_by<C: TreeCalls>(
         → IsSeen (C.files calls.old) seen.now }
     requires around { IsTold (C.files calls.old) (C.devices calls.old)
         → around.now ≡ surroundings (C.files calls.old) seen.now }
+    requires dims { IsTold (C.files calls.old) (C.devices calls.old)
+        → dims.now ≡ dims_beside (C.files calls.old) seen.now }
     requires known { IsTold (C.files calls.old) (C.devices calls.old)
         → IsKnownOf (C.files calls.old) seen.now overlaps }
     ensures ready { C.is_ready calls.new }
@@ -91,7 +125,7 @@ pub fn broken_by<C: TreeCalls>(
         (C.devices calls.new) result }
 {
     match target_of(calls, seen.node) {
-        Ok(Some(at)) => { broken_at(alloc, calls, set, seen, at, around, overlaps) },
+        Ok(Some(at)) => { broken_at(alloc, calls, set, seen, at, around, dims, overlaps) },
         Ok(None) => one_rule(alloc, 1, true),
         Err(error) => Err(error),
     }
@@ -105,6 +139,7 @@ fn broken_at<C: TreeCalls>(
     seen: &Seen,
     at: NodeId,
     around: &Surroundings,
+    dims: &Option<ArrayDims>,
     overlaps: Option<bool>,
 ) -> Result<Rules, AdfError>
     requires ready { C.is_ready calls.old }
@@ -112,6 +147,8 @@ fn broken_at<C: TreeCalls>(
         → IsSeen (C.files calls.old) seen.now }
     requires around { IsTold (C.files calls.old) (C.devices calls.old)
         → around.now ≡ surroundings (C.files calls.old) seen.now }
+    requires dims { IsTold (C.files calls.old) (C.devices calls.old)
+        → dims.now ≡ dims_beside (C.files calls.old) seen.now }
     requires known { IsTold (C.files calls.old) (C.devices calls.old)
         → IsKnownOf (C.files calls.old) seen.now overlaps }
     requires target { IsTold (C.files calls.old) (C.devices calls.old)
@@ -136,7 +173,7 @@ fn broken_at<C: TreeCalls>(
                     zone: seen.zone,
                     overlaps,
                 };
-                broken_of_kind(alloc, calls, set, kind, &spot, around)
+                broken_of_kind(alloc, calls, set, kind, &spot, around, dims)
             }
             Err(error) => Err(error),
         },
@@ -155,6 +192,7 @@ fn broken_of_kind<C: TreeCalls>(
     kind: LabelKind,
     spot: &Spot,
     around: &Surroundings,
+    dims: &Option<ArrayDims>,
 ) -> Result<Rules, AdfError>
     requires ready { C.is_ready calls.old }
     requires spot { IsTold (C.files calls.old) (C.devices calls.old)
@@ -163,14 +201,14 @@ fn broken_of_kind<C: TreeCalls>(
     ensures only { OnlyAsks (C.files calls.old) (C.devices calls.old)
         (C.devices calls.new) (C.files calls.new) }
     ensures value { IsTold (C.files calls.old) (C.devices calls.old)
-        → IsValueOr (held (tests_with_place set kind (C.files calls.old) spot.now around.now)) result }
+        → IsValueOr (held (tests_with_place set kind (C.files calls.old) spot.now around.now dims.now)) result }
     ensures cause { HasAskCause (C.files calls.old) (C.devices calls.old)
         (C.devices calls.new) result }
 {
     let rules = Rules::new(Vec::new(alloc));
     match kind {
         LabelKind::Other => Ok(rules),
-        _ => with_placed_rules(alloc, calls, set, kind, spot, around, rules),
+        _ => with_placed_rules(alloc, calls, set, kind, spot, around, dims, rules),
     }
 }
 
@@ -182,6 +220,7 @@ fn with_placed_rules<C: TreeCalls>(
     kind: LabelKind,
     spot: &Spot,
     around: &Surroundings,
+    dims: &Option<ArrayDims>,
     rules: Rules,
 ) -> Result<Rules, AdfError>
     requires ready { C.is_ready calls.old }
@@ -191,13 +230,13 @@ fn with_placed_rules<C: TreeCalls>(
     ensures only { OnlyAsks (C.files calls.old) (C.devices calls.old)
         (C.devices calls.new) (C.files calls.new) }
     ensures value { IsTold (C.files calls.old) (C.devices calls.old)
-        → IsValueOr (rules ++ held ((2, not (is_allowed (place_kind (C.files calls.old) spot.now.parent) kind)) ∷ tests_at set kind (C.files calls.old) spot.now around.now)) result }
+        → IsValueOr (rules ++ held ((2, not (is_allowed (place_kind (C.files calls.old) spot.now.parent) kind)) ∷ tests_at set kind (C.files calls.old) spot.now around.now dims.now)) result }
     ensures cause { HasAskCause (C.files calls.old) (C.devices calls.old)
         (C.devices calls.new) result }
 {
     match breaks_place(calls, kind, spot.parent) {
         Ok(is_broken) => match with_rule(rules, 2, is_broken) {
-            Ok(rules) => with_rules_of_kind(alloc, calls, set, kind, spot, around, rules),
+            Ok(rules) => with_rules_of_kind(alloc, calls, set, kind, spot, around, dims, rules),
             Err(error) => Err(error),
         },
         Err(error) => Err(error),
@@ -212,6 +251,7 @@ fn with_rules_of_kind<C: TreeCalls>(
     kind: LabelKind,
     spot: &Spot,
     around: &Surroundings,
+    dims: &Option<ArrayDims>,
     rules: Rules,
 ) -> Result<Rules, AdfError>
     requires ready { C.is_ready calls.old }
@@ -221,7 +261,7 @@ fn with_rules_of_kind<C: TreeCalls>(
     ensures only { OnlyAsks (C.files calls.old) (C.devices calls.old)
         (C.devices calls.new) (C.files calls.new) }
     ensures value { IsTold (C.files calls.old) (C.devices calls.old)
-        → IsValueOr (rules ++ held (tests_at set kind (C.files calls.old) spot.now around.now)) result }
+        → IsValueOr (rules ++ held (tests_at set kind (C.files calls.old) spot.now around.now dims.now)) result }
     ensures cause { HasAskCause (C.files calls.old) (C.devices calls.old)
         (C.devices calls.new) result }
 {
@@ -230,9 +270,7 @@ fn with_rules_of_kind<C: TreeCalls>(
     match kind {
         LabelKind::CgnsBase => with_base_rules(alloc, calls, spot.at, rules),
         LabelKind::Zone => with_zone_rules(alloc, calls, spot.at, &around.base, rules),
-        LabelKind::DataArray => {
-            with_array_rules(alloc, calls, spot.at, spot.parent, sizes, rules)
-        }
+        LabelKind::DataArray => with_array_rules(calls, spot.at, spot.parent, dims, rules),
         LabelKind::Rind => with_rind_rules(calls, spot.node, spot.at, sizes, rules),
         LabelKind::Bc => with_condition_rules(alloc, calls, spot.at, sizes, rules),
         LabelKind::Elements => {

@@ -1,5 +1,5 @@
 -- The tests on a node, by what its label says that it is: each with the number of its rule, rising. The rule of places comes before them.
-use Rattle.std.specs.Prelude.{ℕ, ◌*◌, pos, Bool, not, ◌&&◌, ◌||◌, nat_lt, int_lt, List, [], ◌∷◌, codes, bytes_eq, Option, Some, None, is_none}
+use Rattle.std.specs.Prelude.{ℕ, ℤ, ◌*◌, pos, Bool, not, ◌&&◌, ◌||◌, nat_lt, int_lt, List, [], ◌∷◌, codes, bytes_eq, Option, Some, None, is_none}
 use Rattle.std.specs.List.{list_any}
 use Rattle.adf_format.specs.declared.types.DataType.TheVariants.{R4}
 use Rattle.adf_model.specs.declared.tree.NodeId.{NodeId}
@@ -9,11 +9,11 @@ use Rattle.sids_tables.specs.declared.labels.LabelKind.TheVariants.{CgnsLibraryV
 use Rattle.sids_tables.specs.Words.{grid_locations, zone_types, bc_types}
 use Rattle.sids_rules.specs.declared.zones.RuleKind.{RuleKind}
 use Rattle.sids_views.specs.Views.{given, node_there, kind_there, children_there, count_of}
-use Rattle.sids_rules.specs.Values.{is_array_of, is_ints_of, text_of, are_dims}
-use Rattle.sids_rules.specs.Terms.{Dimensions, are_dimensions, Sizes, zone_sizes, zone_kind, has_child, coordinate_dims, field_dims}
+use Rattle.sids_rules.specs.Values.{is_array_of, is_ints_of, text_of}
+use Rattle.sids_rules.specs.Terms.{Dimensions, are_dimensions, Sizes, zone_sizes, zone_kind, has_child}
 use Rattle.sids_rules.specs.Rules.{is_index_off, are_cells_off, is_boundary_off, is_no_word, has_type, is_filled, are_points_off}
 use Rattle.sids_tables.specs.declared.labels.LabelKind.TheVariants as kind
-use Rattle.sids_node_rules.specs.NodeRules.{is_no_coordinate, is_no_field, is_no_small_node}
+use Rattle.sids_node_rules.specs.NodeRules.{is_no_coordinate, is_no_field, is_size_off, is_no_small_node}
 
 -- ---- bases and zones
 
@@ -75,17 +75,12 @@ tests_on kind files at = numbered (number_on kind) (is_broken_on kind files at)
 
 -- ---- arrays, rinds and boundary conditions
 
-abbrev pub coordinate_tests : Files → Option Sizes → NodeId → NodeId → List (ℕ × Bool)
-coordinate_tests files sizes at grid =
-    (16, is_no_coordinate files at)
-    ∷ (17, is_filled files at && given sizes (λ s. not (are_dims (node_there files at).dims (coordinate_dims files grid s))))
-    ∷ []
+-- by the dimensions that arrays are to have, where rules speak of them
+abbrev pub coordinate_tests : Files → Option (List ℤ) → NodeId → List (ℕ × Bool)
+coordinate_tests files dims at = (16, is_no_coordinate files at) ∷ (17, given dims (is_size_off files at)) ∷ []
 
-abbrev pub field_tests : Files → Option Sizes → NodeId → NodeId → List (ℕ × Bool)
-field_tests files sizes at solution =
-    (21, is_no_field files at)
-    ∷ (22, is_filled files at && given sizes (λ s. given (field_dims files solution s) (λ wanted. not (are_dims (node_there files at).dims wanted))))
-    ∷ []
+abbrev pub field_tests : Files → Option (List ℤ) → NodeId → List (ℕ × Bool)
+field_tests files dims at = (21, is_no_field files at) ∷ (22, given dims (is_size_off files at)) ∷ []
 
 -- those on coordinates or on fields, by the kind of the parent
 abbrev pub tests_in : LabelKind → List (ℕ × Bool) → List (ℕ × Bool) → List (ℕ × Bool)
@@ -93,8 +88,12 @@ tests_in GridCoordinates coordinates fields = coordinates
 tests_in FlowSolution coordinates fields = fields
 tests_in _ coordinates fields = []
 
-abbrev pub array_tests : Files → Option Sizes → NodeId → NodeId → List (ℕ × Bool)
-array_tests files sizes at parent = (15, not (is_filled files at)) ∷ tests_in (kind_there files parent) (coordinate_tests files sizes at parent) (field_tests files sizes at parent)
+-- of an array under a node of a kind
+abbrev pub tests_under : LabelKind → Files → Option (List ℤ) → NodeId → List (ℕ × Bool)
+tests_under k files dims at = (15, not (is_filled files at)) ∷ tests_in k (coordinate_tests files dims at) (field_tests files dims at)
+
+abbrev pub array_tests : Files → Option (List ℤ) → NodeId → NodeId → List (ℕ × Bool)
+array_tests files dims at parent = tests_under (kind_there files parent) files dims at
 
 abbrev pub rind_tests : Files → Option Sizes → NodeId → NodeId → List (ℕ × Bool)
 rind_tests files sizes node at =

@@ -5,14 +5,15 @@ ghost use Rattle.adf_model.specs.Causes.{OnlyAsks};
 ghost use Rattle.adf_model.specs.Slots.{IsTold};
 ghost use Rattle.sids_views.specs.Asks.{IsValueOr, HasAskCause, IsPlain, IsThere};
 ghost use Rattle.sids_tables.specs.declared.labels.LabelKind.TheVariants.{FamilyName};
-ghost use Rattle.sids_views.specs.Views.{given, node_there, kind_there};
-ghost use Rattle.sids_rules.specs.Values.{is_ints_of, are_dims, text_of};
-ghost use Rattle.sids_rules.specs.Terms.{coordinate_dims, field_dims, has_child};
-ghost use Rattle.sids_rules.specs.Rules.{is_filled, are_points_off};
+ghost use Rattle.sids_views.specs.Views.{given, node_there};
+ghost use Rattle.sids_rules.specs.Values.{is_ints_of, text_of};
+ghost use Rattle.sids_rules.specs.Terms.{has_child};
+ghost use Rattle.sids_rules.specs.Rules.{are_points_off};
 ghost use Rattle.sids_readings.specs.Held.{held};
-ghost use Rattle.sids_node_rules.specs.KindTests.{array_tests, rind_tests, condition_tests, coordinate_tests, field_tests};
+ghost use Rattle.sids_node_rules.specs.NodeRules.{is_size_off};
+ghost use Rattle.sids_node_rules.specs.KindTests.{array_tests, tests_under, rind_tests, condition_tests, coordinate_tests, field_tests};
 
-use crate::arrays::{breaks_coordinate_size, breaks_field_size};
+use crate::arrays::{ArrayDims, breaks_dims};
 use crate::conditions::{breaks_bc_family, breaks_bc_points};
 use crate::node_rules::{
     breaks_array_data, breaks_coordinate_type, breaks_field_type, breaks_rind_data,
@@ -24,13 +25,13 @@ use sids_tables::LabelKind;
 use sids_views::kind_of_node;
 use std::alloc::Global;
 
-/// A list of rules with those that an array breaks.
+/// A list of rules with those that an array breaks, which is to have these dimensions where rules speak
+/// of them.
 pub fn with_array_rules<C: TreeCalls>(
-    alloc: Global,
     calls: &mut C,
     at: NodeId,
     parent: NodeId,
-    sizes: &Option<ZoneSizes>,
+    dims: &Option<ArrayDims>,
     rules: Rules,
 ) -> Result<Rules, AdfError>
     requires ready { C.is_ready calls.old }
@@ -42,49 +43,39 @@ pub fn with_array_rules<C: TreeCalls>(
     ensures only { OnlyAsks (C.files calls.old) (C.devices calls.old)
         (C.devices calls.new) (C.files calls.new) }
     ensures value { IsTold (C.files calls.old) (C.devices calls.old)
-        → IsValueOr (rules ++ held (array_tests (C.files calls.old) sizes.now at parent)) result }
+        → IsValueOr (rules ++ held (array_tests (C.files calls.old) dims.now at parent)) result }
     ensures cause { HasAskCause (C.files calls.old) (C.devices calls.old)
         (C.devices calls.new) result }
 {
     match kind_of_node(calls, parent) {
-        Ok(kind) => with_place_rules(alloc, calls, at, parent, kind, sizes, rules),
+        Ok(kind) => with_place_rules(calls, at, kind, dims, rules),
         Err(error) => Err(error),
     }
 }
 
 fn with_place_rules<C: TreeCalls>(
-    alloc: Global,
     calls: &mut C,
     at: NodeId,
-    parent: NodeId,
     kind: LabelKind,
-    sizes: &Option<ZoneSizes>,
+    dims: &Option<ArrayDims>,
     rules: Rules,
 ) -> Result<Rules, AdfError>
     requires ready { C.is_ready calls.old }
-    requires kind { IsTold (C.files calls.old) (C.devices calls.old)
-        → kind_there (C.files calls.old) parent ≡ kind }
     requires plain { IsTold (C.files calls.old) (C.devices calls.old)
         → IsPlain (C.files calls.old) at }
-    requires parent { IsTold (C.files calls.old) (C.devices calls.old)
-        → IsPlain (C.files calls.old) parent }
     ensures ready { C.is_ready calls.new }
     ensures only { OnlyAsks (C.files calls.old) (C.devices calls.old)
         (C.devices calls.new) (C.files calls.new) }
     ensures value { IsTold (C.files calls.old) (C.devices calls.old)
-        → IsValueOr (rules ++ held (array_tests (C.files calls.old) sizes.now at parent)) result }
+        → IsValueOr (rules ++ held (tests_under kind (C.files calls.old) dims.now at)) result }
     ensures cause { HasAskCause (C.files calls.old) (C.devices calls.old)
         (C.devices calls.new) result }
 {
     match breaks_array_data(calls, at) {
         Ok(is_broken) => match with_rule(rules, 15, is_broken) {
             Ok(rules) => match kind {
-                LabelKind::GridCoordinates => {
-                    with_coordinate_rules(alloc, calls, at, parent, sizes, rules)
-                }
-                LabelKind::FlowSolution => {
-                    with_field_rules(alloc, calls, at, parent, sizes, rules)
-                }
+                LabelKind::GridCoordinates => with_coordinate_rules(calls, at, dims, rules),
+                LabelKind::FlowSolution => with_field_rules(calls, at, dims, rules),
                 _ => Ok(rules),
             },
             Err(error) => Err(error),
@@ -94,29 +85,25 @@ fn with_place_rules<C: TreeCalls>(
 }
 
 fn with_coordinate_rules<C: TreeCalls>(
-    alloc: Global,
     calls: &mut C,
     at: NodeId,
-    grid: NodeId,
-    sizes: &Option<ZoneSizes>,
+    dims: &Option<ArrayDims>,
     rules: Rules,
 ) -> Result<Rules, AdfError>
     requires ready { C.is_ready calls.old }
     requires plain { IsTold (C.files calls.old) (C.devices calls.old)
         → IsPlain (C.files calls.old) at }
-    requires grid { IsTold (C.files calls.old) (C.devices calls.old)
-        → IsPlain (C.files calls.old) grid }
     ensures ready { C.is_ready calls.new }
     ensures only { OnlyAsks (C.files calls.old) (C.devices calls.old)
         (C.devices calls.new) (C.files calls.new) }
     ensures value { IsTold (C.files calls.old) (C.devices calls.old)
-        → IsValueOr (rules ++ held (coordinate_tests (C.files calls.old) sizes.now at grid)) result }
+        → IsValueOr (rules ++ held (coordinate_tests (C.files calls.old) dims.now at)) result }
     ensures cause { HasAskCause (C.files calls.old) (C.devices calls.old)
         (C.devices calls.new) result }
 {
     match breaks_coordinate_type(calls, at) {
         Ok(is_broken) => match with_rule(rules, 16, is_broken) {
-            Ok(rules) => match is_coordinate_off(alloc, calls, at, grid, sizes) {
+            Ok(rules) => match is_size_off(calls, at, dims) {
                 Ok(is_broken) => with_rule(rules, 17, is_broken),
                 Err(error) => Err(error),
             },
@@ -126,57 +113,26 @@ fn with_coordinate_rules<C: TreeCalls>(
     }
 }
 
-/// K17 coordinate-size, where the sizes of the zone are known.
-fn is_coordinate_off<C: TreeCalls>(
-    alloc: Global,
-    calls: &mut C,
-    at: NodeId,
-    grid: NodeId,
-    sizes: &Option<ZoneSizes>,
-) -> Result<bool, AdfError>
-    requires ready { C.is_ready calls.old }
-    requires plain { IsTold (C.files calls.old) (C.devices calls.old)
-        → IsPlain (C.files calls.old) at }
-    requires grid { IsTold (C.files calls.old) (C.devices calls.old)
-        → IsPlain (C.files calls.old) grid }
-    ensures ready { C.is_ready calls.new }
-    ensures only { OnlyAsks (C.files calls.old) (C.devices calls.old)
-        (C.devices calls.new) (C.files calls.new) }
-    ensures value { IsTold (C.files calls.old) (C.devices calls.old)
-        → IsValueOr (is_filled (C.files calls.old) at && given sizes.now (λ s. not (are_dims (node_there (C.files calls.old) at).dims (coordinate_dims (C.files calls.old) grid s)))) result }
-    ensures cause { HasAskCause (C.files calls.old) (C.devices calls.old)
-        (C.devices calls.new) result }
-{
-    match sizes {
-        Some(sizes) => breaks_coordinate_size(alloc, calls, at, grid, sizes),
-        None => Ok(false),
-    }
-}
-
 fn with_field_rules<C: TreeCalls>(
-    alloc: Global,
     calls: &mut C,
     at: NodeId,
-    solution: NodeId,
-    sizes: &Option<ZoneSizes>,
+    dims: &Option<ArrayDims>,
     rules: Rules,
 ) -> Result<Rules, AdfError>
     requires ready { C.is_ready calls.old }
     requires plain { IsTold (C.files calls.old) (C.devices calls.old)
         → IsPlain (C.files calls.old) at }
-    requires solution { IsTold (C.files calls.old) (C.devices calls.old)
-        → IsPlain (C.files calls.old) solution }
     ensures ready { C.is_ready calls.new }
     ensures only { OnlyAsks (C.files calls.old) (C.devices calls.old)
         (C.devices calls.new) (C.files calls.new) }
     ensures value { IsTold (C.files calls.old) (C.devices calls.old)
-        → IsValueOr (rules ++ held (field_tests (C.files calls.old) sizes.now at solution)) result }
+        → IsValueOr (rules ++ held (field_tests (C.files calls.old) dims.now at)) result }
     ensures cause { HasAskCause (C.files calls.old) (C.devices calls.old)
         (C.devices calls.new) result }
 {
     match breaks_field_type(calls, at) {
         Ok(is_broken) => match with_rule(rules, 21, is_broken) {
-            Ok(rules) => match is_field_off(alloc, calls, at, solution, sizes) {
+            Ok(rules) => match is_size_off(calls, at, dims) {
                 Ok(is_broken) => with_rule(rules, 22, is_broken),
                 Err(error) => Err(error),
             },
@@ -186,29 +142,25 @@ fn with_field_rules<C: TreeCalls>(
     }
 }
 
-/// K22 field-size, where the sizes of the zone are known.
-fn is_field_off<C: TreeCalls>(
-    alloc: Global,
+/// K17 coordinate-size and K22 field-size, where rules speak of the dimensions of an array.
+fn is_size_off<C: TreeCalls>(
     calls: &mut C,
     at: NodeId,
-    solution: NodeId,
-    sizes: &Option<ZoneSizes>,
+    dims: &Option<ArrayDims>,
 ) -> Result<bool, AdfError>
     requires ready { C.is_ready calls.old }
     requires plain { IsTold (C.files calls.old) (C.devices calls.old)
         → IsPlain (C.files calls.old) at }
-    requires solution { IsTold (C.files calls.old) (C.devices calls.old)
-        → IsPlain (C.files calls.old) solution }
     ensures ready { C.is_ready calls.new }
     ensures only { OnlyAsks (C.files calls.old) (C.devices calls.old)
         (C.devices calls.new) (C.files calls.new) }
     ensures value { IsTold (C.files calls.old) (C.devices calls.old)
-        → IsValueOr (is_filled (C.files calls.old) at && given sizes.now (λ s. given (field_dims (C.files calls.old) solution s) (λ wanted. not (are_dims (node_there (C.files calls.old) at).dims wanted)))) result }
+        → IsValueOr (given dims.now (is_size_off (C.files calls.old) at)) result }
     ensures cause { HasAskCause (C.files calls.old) (C.devices calls.old)
         (C.devices calls.new) result }
 {
-    match sizes {
-        Some(sizes) => breaks_field_size(alloc, calls, at, solution, sizes),
+    match dims {
+        Some(dims) => breaks_dims(calls, at, dims),
         None => Ok(false),
     }
 }

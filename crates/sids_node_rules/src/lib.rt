@@ -11,7 +11,7 @@ mod single_rules;
 mod zone_rules;
 
 pub use array_rules::{with_array_rules, with_condition_rules, with_rind_rules};
-pub use arrays::{FieldPlace, breaks_coordinate_size, breaks_field_size};
+pub use arrays::{ArrayDims, FieldPlace, breaks_dims, dims_of, dims_under, holds_arrays};
 pub use conditions::{breaks_bc_family, breaks_bc_points};
 pub use dims::breaks_size;
 pub use node_rules::{

@@ -12,7 +12,7 @@ check_by-requires-clause-worded g c = all_worded c.new-finder.result.set
 pub check_by-requires-clause-recalls : goal.check_by-requires-clause-recalls
 check_by-requires-clause-recalls g c told =
     let new = c.new-finder.ensures in
-    recalls_first _ c.new-finder.result new.base new.zone new.no_base new.no_zone new.no_notes
+    recalls_first _ c.new-finder.result new.base new.zone new.no_base new.no_zone new.no_notes new.holder new.no_dims
 
 pub returns-clause-checks : goal.returns-clause-checks
 returns-clause-checks g c told =

@@ -5,6 +5,7 @@ use Rattle.sids_views.specs.Asks.{IsValueOr, IsPlain}
 use Rattle.sids_views.proofs.Gathered.{told_after}
 use Rattle.sids_section_rules.specs.declared.section_rules.Spot.{Spot}
 use Rattle.sids_readings.specs.Held.{held}
+use Rattle.sids_readings.specs.Around.{surroundings}
 use Rattle.sids_broken.specs.NodeTests.{IsSpot, tests_with_place}
 use Rattle.sids_readings.proofs.Keeping.{kept, list_value}
 use Rattle.sids_broken.proofs.BrokenLaws.{root_are, others_are, known_spot}
@@ -33,8 +34,9 @@ returns-in-Ok-clause-value g c told =
     let only = c.kind_of_node.ensures.only in
     let spot : Spot = record { node = seen.node; at = c.args.at; parent = c.in-Some.parent; zone = seen.zone; overlaps = c.args.overlaps } in
     subst (λ numbers. IsValueOr numbers c.broken_of_kind.result)
-    (ap (λ (fs : Files). held (tests_with_place rules kind fs spot c.args.around.now)) only.files_stay
-    ∙ ap (λ around. held (tests_with_place rules kind files spot around)) (c.requires.around told)
+    (ap (λ (fs : Files). held (tests_with_place rules kind fs spot c.args.around.now c.args.dims.now)) only.files_stay
+    ∙ ap (λ around. held (tests_with_place rules kind files spot around c.args.dims.now)) (c.requires.around told)
+    ∙ ap (λ dims. held (tests_with_place rules kind files spot (surroundings files seen) dims)) (c.requires.dims told)
     ∙ sym (others_are files seen c.args.at c.in-Some.parent kind rules c.args.overlaps (c.requires.target told) c.in-Some.is (sym (c.in-Ok.ensures.value told))))
     (c.broken_of_kind.ensures.value (told_after _ _ _ _ only told))
 

@@ -11,8 +11,9 @@ returns-in_default-clause-value g c told =
     let files = g.C.TreeCalls.files c.args.calls.now in
     let spot = c.args.spot.now in
     let around = c.args.around.now in
-    let tests = (2, not (is_allowed (place_kind files spot.parent) c.args.kind)) ∷ tests_at c.args.set c.args.kind files spot around in
+    let dims = c.args.dims.now in
+    let tests = (2, not (is_allowed (place_kind files spot.parent) c.args.kind)) ∷ tests_at c.args.set c.args.kind files spot around dims in
     subst (λ numbers. IsValueOr numbers c.with_placed_rules.result)
     (ap (λ numbers. numbers ++ held tests) (c.new-rules.ensures ∙ c.new.ensures.items)
-    ∙ sym (ap held (place_first c.args.set c.args.kind files spot around c.in_default.not-Other)))
+    ∙ sym (ap held (place_first c.args.set c.args.kind files spot around dims c.in_default.not-Other)))
     (c.with_placed_rules.ensures.value told)
