@@ -172,21 +172,23 @@ fn is_sound(alloc: Global, device: &MemoryDevice, count: usize, last: u64) -> bo
     }
 }
 
-fn is_saved_so(alloc: Global, row: Row) -> bool {
-    let (sample, damage, left, kept, end) = row;
-    match salvage_sample(alloc, sample, damage, Text::new(Vec::new(alloc)), NO_FAULTS) {
-        Ok(
-            Saved {
-                left: Some(found),
-                end: ended,
-                device,
-            },
-        ) => {
-            are_left(&found, left)
-                && outcome_of(ended) == Outcome::Ends(end)
-                && is_sound(alloc, &device, kept, end)
+// Whether these nodes were left out, and what was saved is sound.
+fn is_saved_as(alloc: Global, saved: &Saved, row: Row) -> bool {
+    let (_, _, left, kept, end) = row;
+    match &saved.left {
+        Some(found) => {
+            are_left(found, left)
+                && outcome_of(saved.end) == Outcome::Ends(end)
+                && is_sound(alloc, &saved.device, kept, end)
         }
-        _ => false,
+        None => false,
+    }
+}
+
+fn is_saved_so(alloc: Global, row: Row) -> bool {
+    match salvage_sample(alloc, row.0, row.1, Text::new(Vec::new(alloc)), NO_FAULTS) {
+        Ok(saved) => is_saved_as(alloc, &saved, row),
+        Err(_) => false,
     }
 }
 
