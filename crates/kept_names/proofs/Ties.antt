@@ -11,7 +11,7 @@ same a b h = grind (arith, nat_tests)
 no_less : {P : Type 0} (a b : ℕ) → a ≡ b → nat_lt a b ≡ true → P
 no_less a b is h = absurd (grind (arith, nat_tests))
 
-list_kept : (names : NamesState) (now was : ℕ → List (List ℕ × ℕ)) (node : ℕ) (l : List (List ℕ × ℕ)) → AreKept names now was → list_at names node ≡ Some l → l ≡ now node
+pub list_kept : (names : NamesState) (now was : ℕ → List (List ℕ × ℕ)) (node : ℕ) (l : List (List ℕ × ℕ)) → AreKept names now was → list_at names node ≡ Some l → l ≡ now node
 list_kept names now was node l are e = by_kept (kept_at names node) refl e
   where
     by_kept : (o : Option Kept) → kept_at names node ≡ o → option_map (λ (k : Kept). k.list) o ≡ Some l → l ≡ now node

@@ -1,0 +1,4 @@
+pub mod Meanings
+pub mod KeptLists
+pub mod Replies
+pub mod Follows
