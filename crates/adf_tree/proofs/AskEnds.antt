@@ -13,6 +13,8 @@ use Rattle.adf_model.specs.declared.tree.Reply.{Reply}
 use Rattle.block_cache.specs.declared.cache.BlockCache.{BlockCache}
 use Rattle.block_draft.specs.Draft.{waiting_in}
 use Rattle.block_draft.specs.declared.draft.Draft.{Draft}
+use Rattle.kept_asks.specs.Named.{HasNames, NamesStay}
+use Rattle.kept_names.specs.Kept.{NamesState}
 use Rattle.tree_asks.proofs.Answered.{tells_memory}
 use Rattle.tree_asks.specs.Known.{IsKnown}
 use Rattle.tree_asks.specs.Told.{OfEach, Tells}
@@ -21,6 +23,7 @@ use Rattle.tree_edits.specs.declared.memory.Core.{Core}
 use Rattle.adf_tree.specs.Asks.{AskEnds, IsAskedCause, LookEnds}
 use Rattle.adf_tree.specs.Files.{FileState, IsWorking, device_of, image_in, state_of, steps_in}
 use Rattle.adf_tree.specs.Headers.{Looks}
+use Rattle.adf_tree.proofs.KeptNames.{has_names, names_stay}
 use Rattle.adf_tree.specs.declared.file.AdfFile.{AdfFile}
 
 -- hints change nothing of a file
@@ -31,9 +34,27 @@ other_hints state file hints w = record {
   kept_near = w.kept_near;
   means = w.means;
   work = w.work;
+  names = w.names;
   idle = λ none. record { changes = (w.idle none).changes; core = (w.idle none).core };
   stopped = w.stopped;
 }
+
+-- lists of children that a question leaves those of the tree
+pub other_names : {D : Type 0} (state : D → DeviceState) (file : AdfFile D) (names : NamesState) → IsWorking state file → NamesStay file.core (image_in state file) file.names names → IsWorking state (record file { names = names })
+other_names state file names w stay = record {
+  cache = w.cache;
+  near = w.near;
+  kept_near = w.kept_near;
+  means = w.means;
+  work = w.work;
+  names = λ live. names_stay file.core (device_of state file).held (image_in state file) file.names names stay (w.names live);
+  idle = λ none. record { changes = (w.idle none).changes; core = (w.idle none).core };
+  stopped = w.stopped;
+}
+
+pub names_of : {D : Type 0} (state : D → DeviceState) (file : AdfFile D) → IsWorking state file → file.broken ≡ false → HasNames file.core (image_in state file) file.names
+names_of state file w live =
+    has_names file.core (device_of state file).held (image_in state file) file.names (steps_in file) (waiting_in file.draft) (w.names live) (w.means live) (w.work live)
 
 -- a call that leaves the bytes that are shown and the blocks that wait looks
 abbrev told_with : DeviceState → Option (List ℕ) → List ℕ → Core → List Edit → Bool → FileState

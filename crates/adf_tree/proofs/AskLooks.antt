@@ -18,7 +18,7 @@ use Rattle.adf_records.specs.declared.NodeHeader.{NodeHeader}
 use Rattle.node_reads.specs.Headers.{IsHeader}
 use Rattle.node_reads.specs.Reads.{ReadAt, IsUnread}
 use Rattle.tree_asks.proofs.AskedRules.{of_query}
-use Rattle.tree_asks.specs.Causes.{AskReads, AtRow, IsAskCause, IsChildCause, IsTextCause}
+use Rattle.tree_asks.specs.Causes.{AskReads, AtRow, IsChildCause, IsTextCause}
 use Rattle.tree_asks.specs.Known.{IsKnown}
 use Rattle.tree_asks.specs.Refusals.{IsAskRefusal}
 use Rattle.tree_asks.specs.Told.{IsWanted, Tells}
@@ -199,13 +199,9 @@ asks_only core held at (FormatOf node) old new r = few_only 1 old new r
 asks_only core held at (Parent node) old new r = few_only 0 old new r
 asks_only core held at (Target node) old new r = few_only 0 old new r
 
-pub asks_cause : {T : Type 0} (core : Core) (held : Option (List ℕ)) (at : NodeId) (query : Query) (before now : ℕ) (result : Result T AdfError) → IfErr result (IsAskCause core held at query before now) → IfErr result (IsAskedCause query before now)
-asks_cause core held at query before now (Ok value) h = tt
-asks_cause core held at query before now (Err e) h = refusal_asks query before now e (of_query core held at query before now e h)
-
-pub asks_refusal : {T : Type 0} (core : Core) (held : Option (List ℕ)) (at : NodeId) (query : Query) (before now : ℕ) (result : Result T AdfError) → IfErr result (IsAskCause core held at query before now) → IfErr result (IsAskRefusal query before now)
-asks_refusal core held at query before now (Ok value) h = tt
-asks_refusal core held at query before now (Err e) h = of_query core held at query before now e h
+pub asks_cause : {T : Type 0} (query : Query) (before now : ℕ) (result : Result T AdfError) → IfErr result (IsAskRefusal query before now) → IfErr result (IsAskedCause query before now)
+asks_cause query before now (Ok value) h = tt
+asks_cause query before now (Err e) h = refusal_asks query before now e h
 
 -- a path is searched from a node that has a row
 pub find_known : (core : Core) (query : Query) (node : NodeId) (path : List ℕ) (result : Result Reply AdfError) → query ≡ Find node path → IsSome (row_of core.rows.items (asked_node query).serial) → IfOk result (IsKnown core (asked_node query) query)

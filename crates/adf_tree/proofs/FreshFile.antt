@@ -37,6 +37,7 @@ use Rattle.adf_tree.specs.declared.file.AdfFile.{AdfFile}
 use Rattle.adf_tree.specs.Files.{HasMeaning, IsFile, device_of, state_of}
 use Rattle.adf_tree.specs.Fresh.{IsFreshCause, IsFreshCore, fresh_error}
 use Rattle.adf_tree.specs.Opening.{IsEmpty, IsEmptyCause, IsRefused, KeepsFresh, OpensFresh, fresh_row}
+use Rattle.adf_tree.proofs.KeptNames.{none_kept}
 use Rattle.adf_tree.proofs.Committing.{part_later, part_rose, part_told}
 use Rattle.adf_tree.proofs.Starting.{core_same, idle_file, no_steps}
 
@@ -278,8 +279,9 @@ module _ {D : Type 0} (state : D → DeviceState) (old mid : DeviceState) (file 
     (faults : mid.faults ≤ (device_of state file).faults) (lost : mid.lost ≤ (device_of state file).lost) (reads : (device_of state file).reads ≡ mid.reads)
     (wrote : (device_of state file).writes ≡ raised_by waits mid.writes) (writes : (device_of state file).writes ≤ mid.writes + 1)
   where
-    pub fresh_file : IsFile state file
-    fresh_file = idle_file state file settled (no_steps file.steps.items steps) core.same cache (fresh_near wide file.core core.keeps) (λ e. by_held (device_of state file).held means)
+    pub fresh_file : file.names.lists ≡ [] → IsFile state file
+    fresh_file none = idle_file state file settled (no_steps file.steps.items steps) core.same cache (fresh_near wide file.core core.keeps) (λ e. by_held (device_of state file).held means)
+        (λ e. none_kept file.names file.core (device_of state file).held (device_of state file).held none)
       where
         by_held : (h : Option (List ℕ)) → IfSome h (λ bytes. Means bytes (fresh_tree wide) (fresh_placement wide) (memory_of file.core)) → HasMeaning file.core h
         by_held None m = tt

@@ -25,7 +25,7 @@ use Rattle.tree_edits.specs.Edits.{memory_of}
 use Rattle.tree_edits.specs.Rows.{row_of}
 use Rattle.tree_edits.proofs.Nodes.{the_node, header_says, no_break}
 use Rattle.adf_tree.specs.declared.file.AdfFile.{AdfFile}
-use Rattle.adf_tree.specs.Files.{FileState, device_of, image_in, accepted, steps_in, DoesAll, HasMeaning, IsWorking}
+use Rattle.adf_tree.specs.Files.{FileState, device_of, image_in, accepted, steps_in, DoesAll, HasMeaning, IsWorking, KeepsNames}
 use Rattle.adf_tree.specs.Headers.{HeaderEnds, IsHeaderOf}
 use Rattle.adf_tree.proofs.HeaderRules.{header_rule}
 use Rattle.adf_tree.proofs.Starting.{no_keys}
@@ -80,6 +80,9 @@ module _ {D : Type 0} (state : D → DeviceState) (file : AdfFile D) (draft : Dr
           subst (λ (held : Option (List ℕ)). Both (DoesAll (steps_in file) (waiting_in draft) (accepted file.core) file.core) held (image_in state (record file { draft = draft }))) (sym reads.held)
           (subst (λ (image : Option (List ℕ)). Both (DoesAll (steps_in file) (waiting_in draft) (accepted file.core) file.core) (device_of state file).held image) (sym shown)
           (subst (λ (n : List ℕ). Both (DoesAll (steps_in file) n (accepted file.core) file.core) (device_of state file).held (image_in state file)) (sym waits) (w.work live)));
+      names = λ live.
+          subst (λ (held : Option (List ℕ)). KeepsNames file.names file.core held (image_in state (record file { draft = draft }))) (sym reads.held)
+          (subst (KeepsNames file.names file.core (device_of state file).held) (sym shown) (w.names live));
       idle = λ none. record { changes = no_keys (changes_in draft) (waits ∙ ap keys_of (w.idle none).changes); core = (w.idle none).core };
       stopped = w.stopped;
     }

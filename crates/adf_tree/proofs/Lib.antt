@@ -1,3 +1,4 @@
+pub mod KeptNames
 pub mod Starting
 pub mod OpenedRows
 pub mod OpenedTable

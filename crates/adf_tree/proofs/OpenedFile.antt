@@ -34,6 +34,7 @@ use Rattle.adf_tree.specs.declared.file.AdfFile.{AdfFile}
 use Rattle.adf_tree.specs.declared.file.OpenRefused.{OpenRefused}
 use Rattle.adf_tree.specs.Files.{FileState, IsFile, HasMeaning, device_of, image_in, state_of}
 use Rattle.adf_tree.specs.Opening.{opened_from, HasNumberedTree, HasVerdict, IsRefused, OpensStored, Stands}
+use Rattle.adf_tree.proofs.KeptNames.{none_kept}
 use Rattle.adf_tree.proofs.OpenedTable.{opened_table}
 use Rattle.adf_tree.proofs.Starting.{core_same, idle_file, no_keys, no_steps}
 
@@ -121,11 +122,12 @@ module _ {D : Type 0} (state : D → DeviceState) (old : DeviceState) (file : Ad
         (ap (λ (r : RowsState). r.items) rows) heap
         (subst (λ (held : Option (List ℕ)). IfSome held (IsThreaded file.core.heap.work)) (shown ∙ sym reads.held) threads)
 
-    pub stored_file : IsFile state file
-    stored_file = idle_file state file (no_keys (changes_in file.draft) waits) (no_steps file.steps.items steps)
+    pub stored_file : file.names.lists ≡ [] → IsFile state file
+    stored_file none = idle_file state file (no_keys (changes_in file.draft) waits) (no_steps file.steps.items steps)
         (core_same file.core kept (ap (λ (r : RowsState). r.kept) rows ∙ sym (ap (λ (r : RowsState). r.items) rows)))
         cache (subst (AreNear file.core.wide) (sym (ap (λ (r : RowsState). r.items) rows)) (shape_near (map node_place nodes) gaps end file.core.wide shape))
         (λ e. numbered_means file.core (device_of state file).held numbered)
+        (λ e. none_kept file.names file.core (device_of state file).held (device_of state file).held none)
 
     pub stored_stands : Stands file.core.writable limit old (state_of state file)
     stored_stands = record {

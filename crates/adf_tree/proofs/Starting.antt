@@ -17,7 +17,7 @@ use Rattle.tree_edits.specs.declared.memory.Core.{Core}
 use Rattle.tree_edits.specs.declared.rows.Row.{Row}
 use Rattle.tree_edits.specs.Rows.{AreNear}
 use Rattle.adf_tree.specs.declared.file.AdfFile.{AdfFile}
-use Rattle.adf_tree.specs.Files.{FileState, steps_in, device_of, image_in, state_of, accepted, HasMeaning, DoesAll, IsFile}
+use Rattle.adf_tree.specs.Files.{FileState, steps_in, device_of, image_in, state_of, accepted, HasMeaning, DoesAll, IsFile, KeepsNames}
 use Rattle.adf_tree.specs.Steps.{undone_over}
 
 -- where no block is changed, the bytes that are shown are those that are held
@@ -55,14 +55,16 @@ module _ {D : Type 0} (state : D → DeviceState) (file : AdfFile D) (settled : 
         (none_done file.core (device_of state file).held))))
 
     pub idle_file : IsCache state (blocks_below file.draft) → AreNear file.core.wide file.core.rows.items
-        → (file.broken ≡ false → HasMeaning file.core (device_of state file).held) → IsFile state file
-    idle_file cache near means = record {
+        → (file.broken ≡ false → HasMeaning file.core (device_of state file).held)
+        → (file.broken ≡ false → KeepsNames file.names file.core (device_of state file).held (device_of state file).held) → IsFile state file
+    idle_file cache near means names = record {
       working = record {
         cache = cache;
         near = near;
         kept_near = subst (λ (core : Core). AreNear core.wide core.rows.items) same near;
         means = λ live. subst (λ (core : Core). HasMeaning core (device_of state file).held) same (means live);
         work = λ live. idle_work;
+        names = λ live. subst (KeepsNames file.names file.core (device_of state file).held) (sym idle_image) (names live);
         idle = λ e. record { changes = settled; core = same };
         stopped = λ e. none;
       };

@@ -27,9 +27,11 @@ use Rattle.tree_edits.specs.Edits.{Does, Follows, KeepsCore, memory_of}
 use Rattle.tree_edits.specs.Rows.{AreNear}
 use Rattle.tree_edits.specs.Waiting.{Reaches}
 use Rattle.adf_tree.specs.declared.file.AdfFile.{AdfFile}
-use Rattle.adf_tree.specs.Files.{steps_in, device_of, image_in, accepted, HasMeaning, FollowsAll, DoesAll, IsWorking, IsFile}
+use Rattle.adf_tree.specs.Files.{steps_in, device_of, image_in, accepted, HasMeaning, FollowsAll, DoesAll, IsWorking, IsFile, KeepsNames}
 use Rattle.adf_tree.specs.Commits.{committed}
 use Rattle.adf_tree.specs.Steps.{IsWithinCost}
+use Rattle.kept_names.specs.Kept.{AreKept, Children}
+use Rattle.adf_tree.proofs.KeptNames.{committed_names, undone_names}
 use Rattle.adf_tree.proofs.Starting.{idle_file, no_steps}
 
 -- ---- lists
@@ -149,8 +151,9 @@ module _ {D : Type 0} (state : D → DeviceState) (old new : AdfFile D) (w : IsW
     -- once one more edit is done
     pub one_more_works : (edit : Edit) → new.broken ≡ false → IsCache state (blocks_below new.draft) → AreNear new.core.wide new.core.rows.items
         → steps_in new ≡ steps_in old ++ edit ∷ [] → Both (Does edit old.core new.core) (image_in state old) (image_in state new)
-        → IfSome (image_in state old) (IsWithinCost edit old.core (waiting_in old.draft) (waiting_in new.draft)) → IfSome (image_in state old) (Reaches edit old.core new.core (waiting_in old.draft) (waiting_in new.draft)) → IsWorking state new
-    one_more_works edit still cache near steps does within reaches = record {
+        → IfSome (image_in state old) (IsWithinCost edit old.core (waiting_in old.draft) (waiting_in new.draft)) → IfSome (image_in state old) (Reaches edit old.core new.core (waiting_in old.draft) (waiting_in new.draft))
+        → KeepsNames new.names new.core (device_of state new).held (image_in state new) → IsWorking state new
+    one_more_works edit still cache near steps does within reaches names = record {
       cache = cache;
       near = near;
       kept_near = kept_near;
@@ -160,6 +163,7 @@ module _ {D : Type 0} (state : D → DeviceState) (old new : AdfFile D) (w : IsW
           (subst (λ (core : Core). Both (DoesAll (steps_in new) (waiting_in new.draft) core new.core) (device_of state old).held (image_in state new)) (sym same_core)
           (subst (λ (es : List Edit). Both (DoesAll es (waiting_in new.draft) (accepted old.core) new.core) (device_of state old).held (image_in state new)) (sym steps)
           (one_more_both (steps_in old) edit (waiting_in old.draft) (waiting_in new.draft) old.core new.core (device_of state old).held (image_in state old) (image_in state new) (w.work live) does within reaches)));
+      names = λ e. names;
       idle = λ e. absurd (not_empty (steps_in old) edit (sym steps ∙ e));
       stopped = λ e. absurd (not_both new.broken still e);
     }
@@ -171,16 +175,21 @@ module _ {D : Type 0} (state : D → DeviceState) (old new : AdfFile D) (w : IsW
 
 module _ {D : Type 0} (state : D → DeviceState) (old new : AdfFile D) (w : IsWorking state old) (same : new.core ≡ accepted old.core) (settled : changes_in new.draft ≡ []) (steps : new.steps.items ≡ [])
     (cache : IsCache state (blocks_below new.draft)) (held : (device_of state new).held ≡ (device_of state old).held) (broken : new.broken ≡ old.broken)
+    (tied : (now was : Children) → AreKept old.names now was → AreKept new.names was was)
   where
     pub dropped_file : IsFile state new
     dropped_file = idle_file state new settled (no_steps new.steps.items steps) (same ∙ sym (ap accepted same)) cache
         (subst (λ (core : Core). AreNear core.wide core.rows.items) (sym same) w.kept_near)
         (λ live. subst (λ (h : Option (List ℕ)). HasMeaning new.core h) (sym held) (subst (λ (core : Core). HasMeaning core (device_of state old).held) (sym same) (w.means (sym broken ∙ live))))
+        (λ live. subst (λ (h : Option (List ℕ)). KeepsNames new.names new.core h h) (sym held)
+        (subst (λ (core : Core). KeepsNames new.names core (device_of state old).held (device_of state old).held) (sym same)
+        (undone_names old.names new.names old.core (steps_in old) (waiting_in old.draft) (device_of state old).held (image_in state old) tied (w.names (sym broken ∙ live)) (w.work (sym broken ∙ live)))))
 
 -- ---- a file whose edits in work are committed
 
 module _ {D : Type 0} (state : D → DeviceState) (old new : AdfFile D) (w : IsWorking state old) (live : old.broken ≡ false) (same : new.core ≡ committed old.core) (settled : changes_in new.draft ≡ []) (steps : new.steps.items ≡ [])
     (cache : IsCache state (blocks_below new.draft)) (held : (device_of state new).held ≡ image_in state old)
+    (tied : (now was : Children) → AreKept old.names now was → AreKept new.names now now)
   where
     pub committed_file : IsFile state new
     committed_file = idle_file state new settled (no_steps new.steps.items steps) (same ∙ sym (ap accepted same)) cache
@@ -188,3 +197,6 @@ module _ {D : Type 0} (state : D → DeviceState) (old new : AdfFile D) (w : IsW
         (λ e. subst (λ (h : Option (List ℕ)). HasMeaning new.core h) (sym held)
         (subst (λ (core : Core). HasMeaning core (image_in state old)) (sym same)
         (work_means (steps_in old) (waiting_in old.draft) (accepted old.core) old.core (device_of state old).held (image_in state old) (w.work live) (w.means live))))
+        (λ e. subst (λ (h : Option (List ℕ)). KeepsNames new.names new.core h h) (sym held)
+        (subst (λ (core : Core). KeepsNames new.names core (image_in state old) (image_in state old)) (sym same)
+        (committed_names old.names new.names old.core (steps_in old) (waiting_in old.draft) (device_of state old).held (image_in state old) tied (w.names live) (w.means live) (w.work live))))

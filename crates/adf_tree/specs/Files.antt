@@ -15,6 +15,9 @@ use Rattle.block_cache.specs.Cache.{IsCache, device_in}
 use Rattle.block_draft.specs.Draft.{blocks_below, changes_in, waiting_in, shown_in}
 use Rattle.cg_io.specs.Blocks.{Both}
 use Rattle.cg_io.specs.Waits.{Waits, how_many}
+use Rattle.kept_asks.specs.Named.{AreNames, children_in}
+use Rattle.kept_names.specs.Kept.{NamesState}
+use Rattle.tree_asks.specs.Told.{OfEach}
 use Rattle.tree_laws.specs.Reached.{CanReach}
 use Rattle.tree_laws.specs.WholeGroups.{IsGroupWhole}
 use Rattle.tree_edits.specs.declared.memory.Core.{Core}
@@ -83,6 +86,11 @@ DoesAll edits waiting was now old new =
     (tree : Tree) (p : Placement) → Means old tree p (memory_of was)
     → FollowsAll was.heap.limit was.writable edits waiting tree p (memory_of now) old new
 
+-- the lists of children that are kept in memory are those of the tree in work; and those that no edit in work has touched, of the tree
+-- that the device holds
+abbrev pub KeepsNames : NamesState → Core → Option (List ℕ) → Option (List ℕ) → Type 0
+KeepsNames names core held image = OfEach (accepted core) held (λ before tree p. AreNames core image names (children_in tree))
+
 -- ---- what stands between the calls
 
 -- nothing waits for a commit
@@ -99,6 +107,7 @@ pub record IsWorking {D : Type 0} (state : D → DeviceState) (file : AdfFile D)
   pub means : file.broken ≡ false → HasMeaning (accepted file.core) (device_of state file).held
   pub work : file.broken ≡ false
       → Both (DoesAll (steps_in file) (waiting_in file.draft) (accepted file.core) file.core) (device_of state file).held (image_in state file)
+  pub names : file.broken ≡ false → KeepsNames file.names file.core (device_of state file).held (image_in state file)
   pub idle : steps_in file ≡ [] → IsIdle file
   pub stopped : file.broken ≡ true → steps_in file ≡ []
 

@@ -9,6 +9,7 @@ ghost use Rattle.adf_model.specs.Follow.{child_within, search_path, start_of, st
 ghost use Rattle.adf_model.specs.Steps.{IsFileAnswer};
 ghost use Rattle.adf_model.specs.Tests.{and_then, if_there};
 ghost use Rattle.cg_io.specs.Answers.{AnswersRead, OnlyReads};
+ghost use Rattle.kept_asks.specs.Named.{HasNames, NamesStay};
 ghost use Rattle.tree_asks.specs.Known.{IsKnown};
 ghost use Rattle.tree_asks.specs.Told.{OfEach, Tells};
 ghost use Rattle.tree_edits.specs.Rows.{AreNear, row_of};
@@ -17,9 +18,11 @@ ghost use Rattle.adf_tree.specs.Asks.{stays_at, enters_at, next_along, IsAskedCa
 use adf_links::components;
 use adf_model::{AdfError, NodeId, Query, Reply};
 use cg_io::{ReadBytes, Space};
+use kept_asks::{answer_at, child_at};
+use kept_names::Names;
 use node_reads::read_header;
 use std::alloc::Global;
-use tree_asks::{Hints, answer_at, child_at};
+use tree_asks::Hints;
 use tree_edits::{Core, is_link};
 
 fn asked_node(query: &Query) -> NodeId
@@ -101,17 +104,19 @@ fn child_of<R: ReadBytes>(
     bytes: &mut R,
     core: &Core,
     hints: &Hints,
+    names: &Names,
     node: NodeId,
     name: &[u8],
 ) -> Result<NodeId, AdfError>
     requires sound { R.is_sound bytes.old }
     requires near { AreNear core.now.wide core.now.rows.items }
+    requires names { HasNames core.now (R.image bytes.old) names.now }
     ensures told { Tells core.now (R.image bytes.old) (λ tree. if_there
         (child_within tree node name.now) AdfError.NotFound (λ next. Ok next)) result }
     ensures reads { AnswersRead R.is_sound R.image R.state R.waiting OnlyReads IsPathCause
         bytes.old bytes.new result }
 {
-    match child_at(bytes, core, hints, node.serial, name) {
+    match child_at(bytes, core, hints, names, node.serial, name) {
         Ok(Some(serial)) => Ok(NodeId {
             file: node.file,
             serial,
@@ -126,18 +131,20 @@ fn next_along<R: ReadBytes>(
     bytes: &mut R,
     core: &Core,
     hints: &Hints,
+    names: &Names,
     node: NodeId,
     name: &[u8],
 ) -> Result<NodeId, AdfError>
     requires sound { R.is_sound bytes.old }
     requires near { AreNear core.now.wide core.now.rows.items }
+    requires names { HasNames core.now (R.image bytes.old) names.now }
     ensures told { Tells core.now (R.image bytes.old) (λ tree. next_along tree node name.now)
         result }
     ensures reads { AnswersRead R.is_sound R.image R.state R.waiting OnlyReads IsPathCause
         bytes.old bytes.new result }
 {
     match stay(bytes, core, node.serial) {
-        Ok(()) => child_of(bytes, core, hints, node, name),
+        Ok(()) => child_of(bytes, core, hints, names, node, name),
         Err(error) => Err(error),
     }
 }
@@ -161,23 +168,25 @@ fn search<R: ReadBytes>(
     bytes: &mut R,
     core: &Core,
     hints: &Hints,
+    names: &Names,
     node: NodeId,
     path: &[u8],
 ) -> Result<NodeId, AdfError>
     requires sound { R.is_sound bytes.old }
     requires near { AreNear core.now.wide core.now.rows.items }
+    requires names { HasNames core.now (R.image bytes.old) names.now }
     ensures told { Tells core.now (R.image bytes.old) (λ tree. search_path (stay tree)
         (child_within tree) AdfError.NotFound node path.now) result }
     ensures reads { AnswersRead R.is_sound R.image R.state R.waiting OnlyReads IsPathCause
         bytes.old bytes.new result }
 {
-    let names = match components(alloc, path) {
-        Ok(names) => names,
+    let parts = match components(alloc, path) {
+        Ok(parts) => parts,
         Err(error) => return Err(error),
     };
     let mut at = start_of(node, path);
-    'names: for range in names.items() {
-        at = match next_along(bytes, core, hints, at, &path[range.start..range.end]) {
+    'parts: for range in parts.items() {
+        at = match next_along(bytes, core, hints, names, at, &path[range.start..range.end]) {
             Ok(next) => next,
             Err(error) => return Err(error),
         };
@@ -191,20 +200,23 @@ fn of_node<S: Space>(
     space: &mut S,
     core: &Core,
     hints: &Hints,
+    names: &mut Names,
     query: &Query,
 ) -> Result<Reply, AdfError>
     requires sound { S.is_sound space.old }
     requires near { AreNear core.now.wide core.now.rows.items }
+    requires names { HasNames core.now (S.image space.old) names.old }
     ensures told { Tells core.now (S.image space.old) (λ tree. and_then
         (answering_by (stay tree) query.now) (λ at. field_within tree at query.now)) result }
     ensures kind { IfOk result (IsReplyTo query.now) }
     ensures known { IfOk result (IsKnown core.now (asked_node query.now) query.now) }
     ensures reads { AnswersRead S.is_sound S.image S.state S.waiting OnlyReads
         (IsAskedCause query.now) space.old space.new result }
+    ensures names { NamesStay core.now (S.image space.old) names.old names.new }
 {
     let at = asked_node(query);
     match enter(space, core, at.serial, is_followed(query)) {
-        Ok(()) => answer_at(alloc, space, core, hints, at, query),
+        Ok(()) => answer_at(alloc, space, core, hints, names, at, query),
         Err(error) => Err(error),
     }
 }
@@ -215,11 +227,13 @@ fn find<S: Space>(
     space: &mut S,
     core: &Core,
     hints: &Hints,
+    names: &Names,
     node: NodeId,
     path: &[u8],
 ) -> Result<Reply, AdfError>
     requires sound { S.is_sound space.old }
     requires near { AreNear core.now.wide core.now.rows.items }
+    requires names { HasNames core.now (S.image space.old) names.now }
     ensures told { Tells core.now (S.image space.old) (λ tree. and_then (search_path (stay tree)
         (child_within tree) AdfError.NotFound node path.now) (λ found. Ok (Reply.Node found)))
         result }
@@ -227,7 +241,7 @@ fn find<S: Space>(
     ensures reads { AnswersRead S.is_sound S.image S.state S.waiting OnlyReads
         (IsAskedCause (Find node path.now)) space.old space.new result }
 {
-    match search(alloc, space, core, hints, node, path) {
+    match search(alloc, space, core, hints, names, node, path) {
         Ok(found) => Ok(Reply::Node(found)),
         Err(error) => Err(error),
     }
@@ -239,10 +253,12 @@ fn answer_there<S: Space>(
     space: &mut S,
     core: &Core,
     hints: &Hints,
+    names: &mut Names,
     query: &Query,
 ) -> Result<Reply, AdfError>
     requires sound { S.is_sound space.old }
     requires near { AreNear core.now.wide core.now.rows.items }
+    requires names { HasNames core.now (S.image space.old) names.old }
     requires there { IsSome (row_of core.now.rows.items (asked_node query.now).serial) }
     ensures told { Tells core.now (S.image space.old)
         (λ tree. file_reply tree query.now (searched query.now)) result }
@@ -250,10 +266,11 @@ fn answer_there<S: Space>(
     ensures known { IfOk result (IsKnown core.now (asked_node query.now) query.now) }
     ensures reads { AnswersRead S.is_sound S.image S.state S.waiting OnlyReads
         (IsAskedCause query.now) space.old space.new result }
+    ensures names { NamesStay core.now (S.image space.old) names.old names.new }
 {
     match query {
-        Query::Find { node, path } => find(alloc, space, core, hints, *node, path.items()),
-        _ => of_node(alloc, space, core, hints, query),
+        Query::Find { node, path } => find(alloc, space, core, hints, names, *node, path.items()),
+        _ => of_node(alloc, space, core, hints, names, query),
     }
 }
 
@@ -263,19 +280,22 @@ pub(crate) fn answer<S: Space>(
     space: &mut S,
     core: &Core,
     hints: &Hints,
+    names: &mut Names,
     query: &Query,
 ) -> Result<Reply, AdfError>
     requires sound { S.is_sound space.old }
     requires near { AreNear core.now.wide core.now.rows.items }
+    requires names { HasNames core.now (S.image space.old) names.old }
     ensures told { OfEach core.now (S.image space.old)
         (λ image tree p. IsFileAnswer false tree query.now result) }
     ensures kind { IfOk result (IsReplyTo query.now) }
     ensures known { IfOk result (IsKnown core.now (asked_node query.now) query.now) }
     ensures reads { AnswersRead S.is_sound S.image S.state S.waiting OnlyReads
         (IsAskedCause query.now) space.old space.new result }
+    ensures names { NamesStay core.now (S.image space.old) names.old names.new }
 {
     match core.rows.get(asked_node(query).serial) {
-        Some(_) => answer_there(alloc, space, core, hints, query),
+        Some(_) => answer_there(alloc, space, core, hints, names, query),
         None => Err(AdfError::NoSuchNode),
     }
 }

@@ -3,12 +3,14 @@
 ghost use Rattle.std.specs.Prelude.{◌≡◌, []};
 ghost use Rattle.adf_tree.specs.Commits.{CommitEnds, committed, undone};
 ghost use Rattle.adf_tree.specs.Files.{IsFile, IsWorking, accepted, state_of};
+ghost use Rattle.kept_names.specs.Kept.{AreKept, Children};
 
 use adf_model::{AdfError, Edit, NodeId};
 use block_cache::BlockCache;
 use block_draft::Draft;
 use cg_io::Device;
 use http_server::Log;
+use kept_names::Names;
 use std::alloc::Global;
 use tree_asks::Hints;
 use tree_edits::Core;
@@ -22,6 +24,8 @@ pub struct AdfFile<D: Device> {
     pub(crate) core: Core,
     // where the nodes stand, from the first question on
     pub(crate) hints: Option<Hints>,
+    // the children of nodes, as far as they were read whole
+    pub(crate) names: Names,
     // the edits in work, each with the node that it reached through links: proofs alone read it
     pub(crate) steps: Log<Edit, Option<NodeId>>,
     // whether a write failed
@@ -41,6 +45,13 @@ pub(crate) fn no_steps() -> Log<Edit, Option<NodeId>>
     ensures { result.items ≡ [] }
 {
     Log::new()
+}
+
+// No children are kept.
+pub(crate) fn no_names(alloc: Global) -> Names
+    ensures { result.lists ≡ [] }
+{
+    Names::new(alloc)
 }
 
 impl<D: Device> AdfFile<D> {
@@ -90,6 +101,7 @@ impl<D: Device> AdfFile<D> {
             draft,
             core: _,
             hints: _,
+            names: _,
             steps: _,
             broken: _,
             alloc: _,
@@ -103,22 +115,28 @@ impl<D: Device> AdfFile<D> {
     fn accept(&mut self)
         ensures draft { self.new.draft ≡ self.old.draft }
         ensures core { self.new.core ≡ committed self.old.core }
+        ensures names { (now was : Children) → AreKept self.old.names now was
+            → AreKept self.new.names now now }
         ensures steps { self.new.steps.items ≡ [] }
         ensures broken { self.new.broken ≡ self.old.broken }
     {
         self.core.heap.accept();
         self.core.rows.accept();
+        self.names.accept();
         self.steps = no_steps();
     }
 
     pub(crate) fn drop_steps(&mut self)
         ensures draft { self.new.draft ≡ self.old.draft }
         ensures core { self.new.core ≡ accepted self.old.core }
+        ensures names { (now was : Children) → AreKept self.old.names now was
+            → AreKept self.new.names was was }
         ensures steps { self.new.steps.items ≡ [] }
         ensures broken { self.new.broken ≡ self.old.broken }
     {
         self.core.heap.undo();
         self.core.rows.undo();
+        self.names.undo();
         self.steps = no_steps();
     }
 }

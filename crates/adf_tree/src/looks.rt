@@ -15,7 +15,8 @@ use crate::file::AdfFile;
 use crate::hints::hints_of;
 use adf_model::{AdfError, NodeId, Query, Reply, Text};
 use cg_io::Device;
-use tree_asks::{answer_at, child_at, text_at};
+use kept_asks::{answer_at, child_at};
+use tree_asks::text_at;
 
 impl<D: Device> AdfFile<D> {
     /// The answer to a query on the tree in work. The file part of its node is not looked at, and no link is followed:
@@ -35,7 +36,14 @@ impl<D: Device> AdfFile<D> {
             Ok(hints) => hints,
             Err(error) => return Err(error),
         };
-        let result = answer(self.alloc, &mut self.draft, &self.core, &hints, query);
+        let result = answer(
+            self.alloc,
+            &mut self.draft,
+            &self.core,
+            &hints,
+            &mut self.names,
+            query,
+        );
         self.hints = Some(hints);
         result
     }
@@ -56,7 +64,15 @@ impl<D: Device> AdfFile<D> {
             Ok(hints) => hints,
             Err(error) => return Err(error),
         };
-        let result = answer_at(self.alloc, &mut self.draft, &self.core, &hints, at, query);
+        let result = answer_at(
+            self.alloc,
+            &mut self.draft,
+            &self.core,
+            &hints,
+            &mut self.names,
+            at,
+            query,
+        );
         self.hints = Some(hints);
         result
     }
@@ -76,7 +92,14 @@ impl<D: Device> AdfFile<D> {
             Ok(hints) => hints,
             Err(error) => return Err(error),
         };
-        let result = child_at(&mut self.draft, &self.core, &hints, parent, name);
+        let result = child_at(
+            &mut self.draft,
+            &self.core,
+            &hints,
+            &self.names,
+            parent,
+            name,
+        );
         self.hints = Some(hints);
         result
     }

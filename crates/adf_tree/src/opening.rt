@@ -12,7 +12,7 @@ ghost use Rattle.layout_lint.specs.Walks.{node_place};
 ghost use Rattle.adf_tree.specs.Files.{IsFile, device_of, state_of};
 ghost use Rattle.adf_tree.specs.Opening.{opened_row, opened_from, HasVerdict, Stands, IsOpened, IsRefused, IsEmpty, IsEmptyCause, OpensFresh, OpensStored, ReadsWithin};
 
-use crate::file::{AdfFile, OpenRefused, no_steps};
+use crate::file::{AdfFile, OpenRefused, no_names, no_steps};
 use crate::fresh::fresh_core;
 use adf_chunks::Extents;
 use adf_model::{AdfError, Mode};
@@ -120,6 +120,7 @@ fn opened<D: Device>(
             writable,
         },
         hints: None,
+        names: no_names(alloc),
         steps: no_steps(),
         broken: false,
         alloc,
@@ -220,6 +221,7 @@ fn open_fresh<D: Device>(
             draft,
             core,
             hints: None,
+            names: no_names(alloc),
             steps: no_steps(),
             broken: false,
             alloc,

@@ -43,6 +43,7 @@ impl<D: Device> AdfFile<D> {
         ) {
             Ok(serial) => {
                 self.steps = self.steps.and(edit, &there);
+                self.names.clear();
                 add_hint(&mut self.hints, &self.core.rows, serial);
                 Ok(serial)
             }

@@ -16,6 +16,7 @@ returns-in-Find g c =
       told = search_told c.args.core.now c.args.query.now (g.S.ReadBytes.image c.args.space.now) c.find.result c.in-Find.node _ _ c.in-Find.is c.items.ensures c.find.ensures.told;
       kind = subst (λ (q : Query). IfOk c.find.result (IsReplyTo q)) same c.find.ensures.kind;
       known = find_known c.args.core.now c.args.query.now c.in-Find.node _ c.find.result c.in-Find.is c.requires.there;
+      names = λ was are. are;
       reads = record { sound = r.sound; bytes = r.bytes; waits = r.waits; effect = r.effect; cause = subst (λ (q : Query). IfErr c.find.result (IsAskedCause q (g.S.ReadBytes.state c.args.space.now).faults (g.S.ReadBytes.state c.find.new.space).faults)) same r.cause };
     }
 

@@ -1,10 +1,15 @@
-use Rattle.std.proofs.Common.{◌∙◌, List, ℕ, subst}
+use Rattle.std.proofs.Common.{◌∙◌, List, ℕ, subst, sym}
 use Rattle.std.specs.Prelude.{Option}
 use Rattle.cg_io.proofs.ReadLaws.{only_then}
+use Rattle.kept_asks.specs.Named.{HasNames}
 use Rattle.tree_asks.specs.Told.{Tells}
 use Rattle.adf_tree.proofs.AskLooks.{later_path, stay_on_path, tells_on}
 use Rattle.adf_tree.proofs.AskWalks.{along_stops, child_or, goes_along}
 use Rattle.adf_tree.proofs.asks.next_along.Goals as goal
+
+pub child_of-requires-clause-names : goal.child_of-requires-clause-names
+child_of-requires-clause-names g c =
+    subst (λ (held : Option (List ℕ)). HasNames c.args.core.now held c.args.names.now) (sym c.stay.ensures.reads.bytes) c.requires.names
 
 pub returns-in-Ok-clause-told : goal.returns-in-Ok-clause-told
 returns-in-Ok-clause-told g c =

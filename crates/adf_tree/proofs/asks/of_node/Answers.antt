@@ -2,10 +2,19 @@ use Rattle.std.proofs.Common.{◌∙◌, List, ℕ, subst, sym}
 use Rattle.std.specs.Prelude.{Option}
 use Rattle.adf_model.specs.Answers.{field_within}
 use Rattle.cg_io.proofs.ReadLaws.{only_then}
+use Rattle.kept_asks.specs.Named.{HasNames, NamesStay}
 use Rattle.tree_asks.specs.Told.{Tells}
 use Rattle.adf_tree.proofs.AskLooks.{asks_cause, asks_only, known_as, later_asked, stay_asks, through_of}
 use Rattle.adf_tree.proofs.AskWalks.{node_answered, node_refused}
 use Rattle.adf_tree.proofs.asks.of_node.Goals as goal
+
+pub answer_at-requires-clause-names : goal.answer_at-requires-clause-names
+answer_at-requires-clause-names g c =
+    subst (λ (held : Option (List ℕ)). HasNames c.args.core.now held c.args.names.now) (sym c.enter.ensures.reads.bytes) c.requires.names
+
+pub returns-in-Ok-clause-names : goal.returns-in-Ok-clause-names
+returns-in-Ok-clause-names g c =
+    subst (λ (held : Option (List ℕ)). NamesStay c.args.core.now held c.args.names.now c.answer_at.new.names) c.enter.ensures.reads.bytes c.answer_at.ensures.names
 
 pub returns-in-Ok-clause-told : goal.returns-in-Ok-clause-told
 returns-in-Ok-clause-told g c =
@@ -25,7 +34,7 @@ returns-in-Ok-clause-reads g c =
       bytes = b.bytes ∙ a.bytes;
       waits = b.waits ∙ a.waits;
       effect = only_then _ _ _ a.effect (asks_only c.args.core.now held c.asked_node-at.result c.args.query.now _ _ b.effect);
-      cause = later_asked c.args.query.now _ _ _ c.answer_at.result a.effect.faults (asks_cause c.args.core.now held c.asked_node-at.result c.args.query.now _ _ c.answer_at.result b.cause);
+      cause = later_asked c.args.query.now _ _ _ c.answer_at.result a.effect.faults (asks_cause c.args.query.now _ _ c.answer_at.result b.cause);
     }
 
 pub returns-in-Err-clause-told : goal.returns-in-Err-clause-told

@@ -6,8 +6,8 @@ use Rattle.adf_tree.proofs.AskWalks.{IsAlong}
 use Rattle.adf_tree.proofs.asks.search.Given as goal
 
 -- what is left of the path leads where the whole leads
-abbrev pub invariant-names : goal.invariant-names
-invariant-names g l = record {
+abbrev pub invariant-parts : goal.invariant-parts
+invariant-parts g l = record {
   sound : g.R.ReadBytes.is_sound l.bytes;
   bytes : g.R.ReadBytes.image l.bytes ≡ g.R.ReadBytes.image l.fn.bytes;
   waits : g.R.ReadBytes.waiting l.bytes ≡ g.R.ReadBytes.waiting l.fn.bytes;

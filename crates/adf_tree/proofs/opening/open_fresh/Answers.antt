@@ -62,7 +62,7 @@ returns-in-Ok-commit-clause-sound g c =
     (c.in-Ok-commit.ensures.written ∙ c.in-Ok-fresh_core.ensures.image ∙ ap (option_map (λ none. fresh_block c.args.wide)) (c.new-draft.ensures.image ∙ sym reads.held))
     (subst (λ held. IfSome held (λ bytes. Means bytes (fresh_tree c.args.wide) (fresh_placement c.args.wide) (memory_of c.in-Ok-fresh_core.core))) (sym c.in-Ok-commit.ensures.written) c.in-Ok-fresh_core.ensures.means)
     c.commit.ensures.cause.later c.commit.ensures.lost.later c.commit.ensures.reads c.in-Ok-commit.ensures.count
-    (omega (arith, c.commit.ensures.few, w.waits, ap (λ changes. how_many (keys_of changes)) c.new-draft.ensures.empty))
+    (omega (arith, c.commit.ensures.few, w.waits, ap (λ changes. how_many (keys_of changes)) c.new-draft.ensures.empty)) c.no_names.ensures
 
 pub returns-in-Ok-commit-clause-opened : goal.returns-in-Ok-commit-clause-opened
 returns-in-Ok-commit-clause-opened g c =
@@ -71,7 +71,7 @@ returns-in-Ok-commit-clause-opened g c =
     let mid = state (device_in (blocks_below c.fresh_core.new.space)) in
     let w = c.in-Ok-fresh_core.ensures.writes in
     let reads = subst (λ cache. ReadsFew 7 (state (device_in cache)) mid) c.new-draft.ensures.blocks w.effect in
-    let file : AdfFile g.row.D.Denot = record { draft = c.commit.new.self; core = c.in-Ok-fresh_core.core; hints = None; steps = c.no_steps.result; broken = false; alloc = c.args.alloc } in
+    let file : AdfFile g.row.D.Denot = record { draft = c.commit.new.self; core = c.in-Ok-fresh_core.core; hints = None; names = c.no_names.result; steps = c.no_steps.result; broken = false; alloc = c.args.alloc } in
     fresh_opens state old mid file c.args.wide c.args.limit _ (reads_then 1 7 8 _ _ _ c.check_empty.ensures.effect reads (omega arith)) c.in-Ok.ensures.empty
     c.in-Ok-fresh_core.ensures.core c.commit.ensures.empty c.no_steps.ensures refl c.commit.ensures.sound
     (c.in-Ok-commit.ensures.written ∙ c.in-Ok-fresh_core.ensures.image ∙ ap (option_map (λ none. fresh_block c.args.wide)) (c.new-draft.ensures.image ∙ sym reads.held))

@@ -32,7 +32,7 @@ returns-clause-sound g c =
     let r = c.in-Ok-new.ensures.reads in
     stored_file state (state (device_in c.args.cache)) _ v.nodes v.gaps v.end c.args.limit r.sound (r.bytes ∙ c.new-draft.ensures.image) (r.waits ∙ ap keys_of c.new-draft.ensures.empty)
     (subst (λ cache. OnlyReads (state (device_in cache)) (state (device_in (blocks_below c.new.new.space)))) c.new-draft.ensures.blocks (few_only _ _ _ r.effect))
-    c.no_steps.ensures refl c.in-Ok-new.ensures.ok c.in-Ok-new.ensures.accepted c.in-Ok-new.ensures.limit (all_rows_of _ _ v.nodes c.items.ensures c.in-Ok.ensures.rows) c.in-Ok-new.ensures.threads c.requires.shape c.requires.verdict
+    c.no_steps.ensures refl c.in-Ok-new.ensures.ok c.in-Ok-new.ensures.accepted c.in-Ok-new.ensures.limit (all_rows_of _ _ v.nodes c.items.ensures c.in-Ok.ensures.rows) c.in-Ok-new.ensures.threads c.requires.shape c.requires.verdict c.no_names.ensures
 
 pub returns-clause-opened : goal.returns-clause-opened
 returns-clause-opened g c =
@@ -40,7 +40,7 @@ returns-clause-opened g c =
     let v = c.args.verdict in
     let r = c.in-Ok-new.ensures.reads in
     let core : Core = record { heap = c.in-Ok-new.heap; rows = c.in-Ok.rows; wide = v.wide; writable = c.args.writable } in
-    let file : AdfFile g.row.D.Denot = record { draft = c.new.new.space; core = core; hints = None; steps = c.no_steps.result; broken = false; alloc = c.args.alloc } in
+    let file : AdfFile g.row.D.Denot = record { draft = c.new.new.space; core = core; hints = None; names = c.no_names.result; steps = c.no_steps.result; broken = false; alloc = c.args.alloc } in
     stored_stands state (state (device_in c.args.cache)) file v.nodes v.gaps v.end c.args.limit r.sound (r.bytes ∙ c.new-draft.ensures.image) (r.waits ∙ ap keys_of c.new-draft.ensures.empty)
     (subst (λ cache. OnlyReads (state (device_in cache)) (state (device_in (blocks_below c.new.new.space)))) c.new-draft.ensures.blocks (few_only _ _ _ r.effect))
     c.no_steps.ensures refl c.in-Ok-new.ensures.ok c.in-Ok-new.ensures.accepted c.in-Ok-new.ensures.limit (all_rows_of _ _ v.nodes c.items.ensures c.in-Ok.ensures.rows) c.in-Ok-new.ensures.threads c.requires.shape c.requires.verdict

@@ -1,5 +1,5 @@
-use Rattle.adf_tree.proofs.AskLooks.{asks_only, asks_refusal}
-use Rattle.adf_tree.proofs.AskEnds.{broken_looks, looks_end, memory_looks, only_looks, other_hints}
+use Rattle.adf_tree.proofs.AskLooks.{asks_only}
+use Rattle.adf_tree.proofs.AskEnds.{broken_looks, looks_end, memory_looks, names_of, only_looks, other_hints, other_names}
 use Rattle.adf_tree.proofs.HeaderReads.{read_works}
 use Rattle.adf_tree.specs.Files.{state_of}
 use Rattle.adf_tree.proofs.file.AdfFile.answer_at.Goals as goal
@@ -17,19 +17,23 @@ returns-in-Err-clause-ends g c =
     let file = state_of g.D.Device.state c.args.self.now in
     memory_looks _ _ file file c.in-Err.error c.if-self.false c.in-Err.ensures tt
 
+pub answer_at-result-requires-clause-names : goal.answer_at-result-requires-clause-names
+answer_at-result-requires-clause-names g c = names_of g.D.Device.state c.args.self.now c.requires c.if-self.false
+
 pub returns-clause-sound : goal.returns-clause-sound
 returns-clause-sound g c =
     let state = g.D.Device.state in
     let file = c.args.self.now in
     let reads = c.answer_at-result.ensures.reads in
-    other_hints state (record file { draft = c.answer_at-result.new.space }) _ (read_works state file c.answer_at-result.new.space c.requires reads.sound reads.bytes reads.waits (asks_only file.core _ c.args.at c.args.query.now _ _ reads.effect))
+    let named = other_names state file c.answer_at-result.new.names c.requires c.answer_at-result.ensures.names in
+    other_hints state (record file { draft = c.answer_at-result.new.space; names = c.answer_at-result.new.names }) _ (read_works state (record file { names = c.answer_at-result.new.names }) c.answer_at-result.new.space named reads.sound reads.bytes reads.waits (asks_only file.core _ c.args.at c.args.query.now _ _ reads.effect))
 
 pub returns-clause-ends : goal.returns-clause-ends
 returns-clause-ends g c =
     let state = g.D.Device.state in
     let file = c.args.self.now in
     let reads = c.answer_at-result.ensures.reads in
-    looks_end _ _ (state_of state file) (state_of state (record file { draft = c.answer_at-result.new.space })) c.answer_at-result.result c.if-self.false c.answer_at-result.ensures.told (asks_refusal file.core _ c.args.at c.args.query.now _ _ c.answer_at-result.result reads.cause)
+    looks_end _ _ (state_of state file) (state_of state (record file { draft = c.answer_at-result.new.space })) c.answer_at-result.result c.if-self.false c.answer_at-result.ensures.told reads.cause
 
 pub returns-clause-looks : goal.returns-clause-looks
 returns-clause-looks g c =

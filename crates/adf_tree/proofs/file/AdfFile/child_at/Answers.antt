@@ -1,6 +1,6 @@
 use Rattle.adf_tree.proofs.AskLooks.{looks_child}
 use Rattle.adf_tree.proofs.EditsAnswer.{table_reads}
-use Rattle.adf_tree.proofs.AskEnds.{broken_looks, looks_end, memory_looks, only_looks, other_hints}
+use Rattle.adf_tree.proofs.AskEnds.{broken_looks, looks_end, memory_looks, names_of, only_looks, other_hints}
 use Rattle.adf_tree.proofs.HeaderReads.{read_works}
 use Rattle.adf_tree.specs.Files.{state_of}
 use Rattle.adf_tree.proofs.file.AdfFile.child_at.Goals as goal
@@ -17,6 +17,9 @@ pub returns-in-Err-clause-ends : goal.returns-in-Err-clause-ends
 returns-in-Err-clause-ends g c =
     let file = state_of g.D.Device.state c.args.self.now in
     memory_looks _ _ file file c.in-Err.error c.if-self.false c.in-Err.ensures tt
+
+pub child_at-result-requires-clause-names : goal.child_at-result-requires-clause-names
+child_at-result-requires-clause-names g c = names_of g.D.Device.state c.args.self.now c.requires c.if-self.false
 
 pub returns-clause-sound : goal.returns-clause-sound
 returns-clause-sound g c =

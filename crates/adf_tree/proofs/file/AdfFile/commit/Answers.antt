@@ -15,7 +15,7 @@ returns-then-changed-eq0-clause-sound g c =
     let same = c.accept.ensures.draft in
     committed_file state file c.accept.new.self c.requires c.if-self.false c.accept.ensures.core (ap changes_in same ∙ none) c.accept.ensures.steps
     (subst (λ draft. IsCache state (blocks_below draft)) (sym same) c.requires.cache)
-    (ap (λ draft. (state (device_in (blocks_below draft))).held) same ∙ sym (image_settled (state (device_in (blocks_below file.draft))).held (changes_in file.draft) none))
+    (ap (λ draft. (state (device_in (blocks_below draft))).held) same ∙ sym (image_settled (state (device_in (blocks_below file.draft))).held (changes_in file.draft) none)) c.accept.ensures.names
 
 pub returns-in-Ok-clause-sound : goal.returns-in-Ok-clause-sound
 returns-in-Ok-clause-sound g c =
@@ -23,7 +23,7 @@ returns-in-Ok-clause-sound g c =
     let same = c.accept-in-Ok.ensures.draft in
     committed_file state c.args.self.now c.accept-in-Ok.new.self c.requires c.if-self.false c.accept-in-Ok.ensures.core (ap changes_in same ∙ c.commit.ensures.empty) c.accept-in-Ok.ensures.steps
     (subst (λ draft. IsCache state (blocks_below draft)) (sym same) c.commit.ensures.sound)
-    (ap (λ draft. (state (device_in (blocks_below draft))).held) same ∙ c.in-Ok.ensures.written)
+    (ap (λ draft. (state (device_in (blocks_below draft))).held) same ∙ c.in-Ok.ensures.written) c.accept-in-Ok.ensures.names
 
 pub returns-in-Err-clause-ends : goal.returns-in-Err-clause-ends
 returns-in-Err-clause-ends g c =

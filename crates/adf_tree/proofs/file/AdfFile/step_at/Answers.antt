@@ -7,6 +7,8 @@ use Rattle.adf_model.specs.declared.tree.NodeId.{NodeId}
 use Rattle.std.specs.Prelude.{Option}
 use Rattle.adf_tree.specs.Files.{accepted, device_of, image_in, steps_in}
 use Rattle.adf_tree.specs.Reached.{with_reached}
+use Rattle.kept_names.specs.Kept.{NamesState}
+use Rattle.adf_tree.proofs.KeptNames.{none_kept}
 use Rattle.adf_tree.proofs.Stepping.{dropped_file, one_more_works, same_accepted, work_means}
 use Rattle.adf_tree.proofs.file.AdfFile.step_at.Goals as goal
 
@@ -25,6 +27,7 @@ returns-in-Ok-clause-sound g c =
     one_more_works state file _ c.requires.sound c.if-self.false answers.kept answers.effect (with_reached c.args.edit.now c.args.there) c.if-self.false answers.sound answers.near
     (ap (map (λ (e : Edit × Option NodeId). with_reached e.0 e.1)) c.and-self.ensures ∙ map-append (λ (e : Edit × Option NodeId). with_reached e.0 e.1) file.steps.items ((c.args.edit.now, c.args.there) ∷ []))
     answers.done answers.cost answers.reached
+    (none_kept c.clear.new.self c.do_edit.new.core _ _ (ap (λ (names : NamesState). names.lists) c.clear.ensures))
 
 pub returns-in-Err-clause-sound : goal.returns-in-Err-clause-sound
 returns-in-Err-clause-sound g c =
@@ -34,4 +37,4 @@ returns-in-Err-clause-sound g c =
     let blocks = ap blocks_below c.drop_steps.ensures.draft ∙ c.abandon.ensures.blocks in
     (dropped_file state file c.drop_steps.new.self c.requires.sound (c.drop_steps.ensures.core ∙ same_accepted file.core c.do_edit.new.core answers.kept)
     (ap changes_in c.drop_steps.ensures.draft ∙ c.abandon.ensures.empty) c.drop_steps.ensures.steps
-    (subst (IsCache state) (sym blocks) answers.sound) (ap (λ cache. (state (device_in cache)).held) blocks ∙ answers.effect.held) c.drop_steps.ensures.broken).working
+    (subst (IsCache state) (sym blocks) answers.sound) (ap (λ cache. (state (device_in cache)).held) blocks ∙ answers.effect.held) c.drop_steps.ensures.broken c.drop_steps.ensures.names).working
