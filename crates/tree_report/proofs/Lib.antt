@@ -1,0 +1,5 @@
+pub mod FieldLaws
+pub mod SightLaws
+pub mod LevelLaws
+pub mod ReportLaws
+pub mod Opened
