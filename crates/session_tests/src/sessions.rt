@@ -11,6 +11,7 @@ use cg_io::{MemoryDevice, MemorySink, MemorySource};
 use session::{Ended, Found, LineReader, Stopped, laws, run_session};
 use std::alloc::Global;
 use std::test::Fail;
+use tool_laws::quiet_runs_end_as_given;
 
 // A session over some lines: the call of the input and that of the output that fails, from 1, how it ends
 // and what it prints.
@@ -158,6 +159,7 @@ fn lines_are_found_one_by_one(rt: HostRuntime) -> Result<(), Fail> {
 fn laws_are_calls() {
     laws::faults_bound_replies();
     laws::sessions_are_steps();
+    quiet_runs_end_as_given();
     line_laws::one_call_a_line();
     line_laws::calls_have_lines();
 }
