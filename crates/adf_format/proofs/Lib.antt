@@ -27,7 +27,6 @@ pub mod FieldLaws
 pub mod SpelledParts
 pub mod WrittenParts
 pub mod LinkLaws
-pub mod CacheLaws
 pub mod PointerLaws
 pub mod NumberLaws
 pub mod BehindEnd

@@ -21,5 +21,4 @@ pub mod Spelled
 pub mod Verdict
 pub mod Changes
 pub mod HeapBytes
-pub mod Cache
 pub mod Case

@@ -21,7 +21,6 @@ ghost use Rattle.adf_format.specs.FirstFault.{count_up, Visit, FreeVisit, NodeWa
 ghost use Rattle.adf_format.specs.SoundPart.{format_in};
 ghost use Rattle.adf_format.specs.Verdict.{NodePlace, IsLaidOutAs};
 ghost use Rattle.adf_format.specs.Packed.{IsPacked};
-ghost use Rattle.adf_format.specs.Cache.{touch};
 ghost use Rattle.adf_format.specs.declared.types.Format.{Format};
 ghost use Rattle.adf_format.specs.HeapRule.{heap_take, heap_give, give_joined, give_all, pairs};
 ghost use Rattle.adf_format.specs.Changes.{KeepsBut, AllApart, SameChildren};
@@ -232,15 +231,4 @@ pub fn verdict_of_header()
 /// The fresh files are packed.
 pub fn fresh_file_is_packed()
     ensures { (wide : Bool) → IsPacked (fresh_tree wide) (fresh_placement wide) }
-{}
-
-/// A block that is used stands first in the list of a cache, the list is no longer than the capacity, and all
-/// others in it were in it before.
-pub fn cache_list()
-    ensures first { (capacity number : ℕ) (numbers : List ℕ) → 0 < capacity
-        → slice_get (touch capacity numbers number) 0 ≡ Some number }
-    ensures few { (capacity number : ℕ) (numbers : List ℕ)
-        → length (touch capacity numbers number) ≤ capacity }
-    ensures others { (capacity number : ℕ) (numbers : List ℕ) (x : ℕ)
-        → IsAmong (touch capacity numbers number) x → (number ≡ x) ⊎ IsAmong numbers x }
 {}

@@ -121,7 +121,6 @@ fn further_laws_of_layouts_are_calls() {
     laws::bytes_behind_the_end();
     laws::verdict_of_header();
     laws::fresh_file_is_packed();
-    laws::cache_list();
 }
 
 #[test]
