@@ -1,14 +1,9 @@
--- What the creation of a child writes into a file, and that the file then lays out the tree with the child.
+-- What the creation of a child writes into a file: the header, the longer table, the fillers.
 pub mod PartsApart
-pub mod FilledGaps
-pub mod CreateFacts
+pub mod FillerBytes
 pub mod CreatedParts
 pub mod CreatedNodes
-pub mod CreatedFile
-pub mod EntryAdded
-pub mod TableMoved
-pub mod TableGrown
-pub mod ChildPlaced
-pub mod CreateLaidOut
-pub mod CreateStays
+pub mod TableText
+pub mod ShortTexts
+pub mod PartExtents
 pub mod BasedLaidOut

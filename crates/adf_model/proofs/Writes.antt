@@ -1,5 +1,5 @@
 -- What writes leave of a file: untouched parts, failed commits, the data of a node.
-pub mod ManyWrites
+pub mod Reaches
 pub mod StayLaws
 pub mod UntouchedData
 pub mod UntouchedParts

@@ -1,29 +1,10 @@
-//! Laws of what an edit makes of a file's bytes. No function here does anything: its contract is the law.
+//! Laws of what an edit makes of a tree. No function here does anything: its contract is the law.
 
 ghost use Rattle.std.specs.Prelude.{◌≡◌, ◌≢◌, suc, ◌∷◌, ◌++◌, [], true, Ok, Some, List, ℕ};
 ghost use Rattle.adf_format.specs.Tree.{Tree, IsTree, node_at, is_live, children_at, lineage, depth_of, next_serial};
-ghost use Rattle.adf_format.specs.Placement.{Placement};
-ghost use Rattle.adf_format.specs.LaysOut.{LaysOut};
 ghost use Rattle.adf_model.specs.declared.tree.Edit.{Edit};
 ghost use Rattle.adf_model.specs.declared.tree.NodeId.{NodeId};
 ghost use Rattle.adf_model.specs.Edits.{IsReached, apply, new_node};
-ghost use Rattle.adf_model.specs.Creation.{IsCreation, WritesAll, AllFillers, create_writes, all_written};
-
-/// A child that is created keeps a file a layout of its tree, where all its gaps are fillers: all is taken
-/// behind the end, and a table that is given becomes filler. The writes may come in any order, since no two meet.
-pub fn created_child_is_laid_out()
-    ensures laid_out { (limit : ℕ) (image new : List ℕ) (tree after : Tree) (p q : Placement)
-        (at : NodeId) (name label : List ℕ) → IsCreation limit image tree after p q at name label →
-        WritesAll (create_writes image tree p q at.serial name label) image new
-        → LaysOut new after q }
-    ensures written { (limit : ℕ) (image : List ℕ) (tree after : Tree) (p q : Placement)
-        (at : NodeId) (name label : List ℕ) → IsCreation limit image tree after p q at name label →
-        WritesAll (create_writes image tree p q at.serial name label) image
-        (all_written image (create_writes image tree p q at.serial name label)) }
-    ensures fillers { (limit : ℕ) (image : List ℕ) (tree after : Tree) (p q : Placement)
-        (at : NodeId) (name label : List ℕ) → IsCreation limit image tree after p q at name label →
-        AllFillers q.heap.gaps }
-{}
 
 /// A created child has the next serial, is the last child of its parent and stands one step below it. All
 /// other nodes are as before, and so is who stands above whom.

@@ -6,7 +6,6 @@
 pub mod ask_laws;
 mod calls;
 mod checks;
-pub mod create_laws;
 pub mod data_laws;
 pub mod edit_laws;
 mod error;

@@ -1,9 +1,9 @@
 //! Names, labels, shapes, sizes and spelled texts; and the laws of trees and calls.
 
 use adf_model::{
-    AdfError, DataType, Shape, ask_laws, create_laws, data_laws, edit_laws, element_size,
-    fault_laws, file_group_laws, is_label, is_name, is_shape, is_wide_shape, laws, one_file_laws,
-    run_laws, size, spell, standing_laws, tree_laws, untouched_laws, walk_laws, write_laws,
+    AdfError, DataType, Shape, ask_laws, data_laws, edit_laws, element_size, fault_laws,
+    file_group_laws, is_label, is_name, is_shape, is_wide_shape, laws, one_file_laws, run_laws,
+    size, spell, standing_laws, tree_laws, untouched_laws, walk_laws, write_laws,
 };
 use std::alloc::Global;
 
@@ -165,8 +165,6 @@ fn laws_of_trees_are_calls() {
 
 #[test]
 fn laws_of_layouts_are_calls() {
-    create_laws::created_child_leaves_the_rest();
-    edit_laws::created_child_is_laid_out();
     edit_laws::created_child_in_its_tree();
     tree_laws::tree_order_lists_once();
     tree_laws::numbering();

@@ -13,7 +13,7 @@ use Rattle.adf_format.specs.Tree.{Tree}
 use Rattle.adf_model.specs.NodeData.{DataSpot, alone, spot_of, resized_spot, with_spot, with_spot_or}
 use Rattle.adf_model.specs.Untouched.{data_of}
 use Rattle.adf_model.proofs.Basics.{same_Some}
-use Rattle.adf_model.proofs.Creation.CreateStays.{node_of, of_node}
+use Rattle.adf_model.proofs.Creation.PartExtents.{node_of, of_node}
 use Rattle.adf_model.proofs.Creation.CreatedNodes.{there_inside}
 use Rattle.adf_model.proofs.Writes.DataLaws.{hold-alone}
 use Rattle.tree_laws.specs.DataSwitch.{with_data}

@@ -11,7 +11,7 @@ use Rattle.adf_model.specs.declared.tree.NodeId.{NodeId}
 use Rattle.adf_model.specs.declared.tree.Shape.{Shape}
 use Rattle.adf_model.specs.Need.{cost, growth, size_in, kept_size as kept_in}
 use Rattle.adf_model.specs.Placing.{chunk_number}
-use Rattle.adf_model.proofs.Writes.ManyWrites.{less_or}
+use Rattle.adf_model.proofs.Writes.Reaches.{less_or}
 use Rattle.adf_records.specs.declared.NodeHeader.{NodeHeader}
 use Rattle.adf_data.specs.Growing.{WaitsToGrow}
 use Rattle.cg_io.specs.Waits.{how_many}

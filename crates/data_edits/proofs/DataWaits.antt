@@ -15,7 +15,7 @@ use Rattle.adf_model.specs.declared.tree.Edit.{Edit}
 use Rattle.adf_model.specs.declared.tree.NodeId.{NodeId}
 use Rattle.adf_model.specs.NodeData.{grown_range}
 use Rattle.adf_model.specs.Untouched.{touched_extents, data_of}
-use Rattle.adf_model.proofs.Creation.CreateStays.{of_node}
+use Rattle.adf_model.proofs.Creation.PartExtents.{of_node}
 use Rattle.adf_records.specs.declared.NodeHeader.{NodeHeader}
 use Rattle.adf_data.specs.declared.place.DataPlace.{DataPlace}
 use Rattle.adf_data.specs.Chunks.{Named}

@@ -19,7 +19,7 @@ use Rattle.adf_model.specs.declared.tree.NodeId.{NodeId}
 use Rattle.adf_model.specs.declared.tree.Shape.{Shape}
 use Rattle.adf_model.specs.Edits.{keeps_data}
 use Rattle.adf_model.proofs.Creation.PartsApart.{range_in, cover_all}
-use Rattle.adf_model.proofs.Writes.ManyWrites.{less_or}
+use Rattle.adf_model.proofs.Writes.Reaches.{less_or}
 use Rattle.adf_records.specs.declared.NodeHeader.{NodeHeader}
 use Rattle.adf_data.specs.Sizes.{MayGiveAll}
 use Rattle.disk_ptr.specs.View.{view, place_of}

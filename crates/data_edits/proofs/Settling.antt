@@ -23,7 +23,7 @@ use Rattle.adf_model.specs.NodeData.{HoldsData, SharesRoom, grown_range}
 use Rattle.adf_model.proofs.Creation.PartsApart.{range_in, range_out, range_within, all_apart, cover_all}
 use Rattle.adf_model.proofs.Walks.WalkCounts.{place_small}
 use Rattle.adf_model.proofs.Writes.DataRoom.{resized_room, released_room}
-use Rattle.adf_model.proofs.Writes.ManyWrites.{less_or}
+use Rattle.adf_model.proofs.Writes.Reaches.{less_or}
 use Rattle.adf_data.specs.declared.place.DataPlace.{DataPlace}
 use Rattle.adf_data.specs.Growing.{sized_ranges}
 use Rattle.file_heap.specs.Beside.{AreBeside}

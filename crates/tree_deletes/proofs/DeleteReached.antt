@@ -10,7 +10,7 @@ use Rattle.adf_model.specs.declared.tree.Edit.{Edit}
 use Rattle.adf_model.specs.declared.tree.NodeId.{NodeId}
 use Rattle.adf_model.specs.Untouched.{touched_extents, header_extent, table_of, list_of, of_parent}
 use Rattle.adf_model.proofs.Basics.{same_Some}
-use Rattle.adf_model.proofs.Creation.CreateStays.{of_node}
+use Rattle.adf_model.proofs.Creation.PartExtents.{of_node}
 use Rattle.adf_data.specs.Sizes.{MayGiveAll}
 use Rattle.cg_io.specs.Blocks.{Both}
 use Rattle.cg_io.specs.Waits.{WaitsOnly}

@@ -23,7 +23,7 @@ use Rattle.adf_model.specs.Tests.{checked, if_there, first_refusal}
 use Rattle.adf_model.specs.Edits.{apply, file_step, without}
 use Rattle.adf_model.proofs.Following.StepTests.{step_tests}
 use Rattle.adf_model.proofs.Creation.PartsApart.{range_in}
-use Rattle.adf_model.proofs.Writes.ManyWrites.{less_or}
+use Rattle.adf_model.proofs.Writes.Reaches.{less_or}
 use Rattle.adf_model.proofs.Trees.AncestorLemmas.{live_with_child, parent_tells}
 use Rattle.adf_data.specs.Sizes.{MayGiveAll}
 use Rattle.file_heap.specs.Heap.{FreeSpace, IsThreaded}

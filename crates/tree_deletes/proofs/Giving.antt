@@ -18,7 +18,7 @@ use Rattle.adf_format.proofs.HeapLaws.{in_range}
 use Rattle.adf_format.proofs.HeapSteps.{cover-append}
 use Rattle.adf_format.proofs.ReachedLaws.{still_changes, more_changes}
 use Rattle.adf_model.proofs.Creation.PartsApart.{range_in, range_out}
-use Rattle.adf_model.proofs.Writes.ManyWrites.{less_or}
+use Rattle.adf_model.proofs.Writes.Reaches.{less_or}
 use Rattle.adf_data.specs.declared.place.DataPlace.{DataPlace}
 use Rattle.adf_data.specs.Chunks.{AreNamed, Named}
 use Rattle.adf_data.specs.Sizes.{MayGiveAll}

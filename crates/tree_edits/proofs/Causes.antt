@@ -6,7 +6,7 @@ use Rattle.adf_format.specs.declared.fields.TheConstants.{NODE_TYPE}
 use Rattle.adf_format.specs.Fields.{text_field}
 use Rattle.adf_format.specs.Names.{is_label, is_lk}
 use Rattle.adf_model.proofs.Creation.CreatedParts.{padded_long}
-use Rattle.adf_model.proofs.Creation.CreateLaidOut.{short_label}
+use Rattle.adf_model.proofs.Creation.ShortTexts.{short_label}
 use Rattle.adf_format.specs.RecordFields.{field_in, node_length}
 use Rattle.adf_format.specs.FirstFault.{type_or_mt}
 use Rattle.adf_format.specs.Records.{NodeRecord, node_record}

@@ -13,7 +13,7 @@ use Rattle.adf_format.proofs.HeapLaws.{join_range}
 use Rattle.adf_format.proofs.ReachedLaws.{still_changes, more_changes, later_changes}
 use Rattle.adf_model.proofs.Basics.{not_there, same_Some}
 use Rattle.adf_model.proofs.Creation.PartsApart.{range_out}
-use Rattle.adf_model.proofs.Writes.ManyWrites.{less_or}
+use Rattle.adf_model.proofs.Writes.Reaches.{less_or}
 use Rattle.cg_io.specs.Blocks.{Both, blocks_of}
 use Rattle.cg_io.specs.Device.{bytes_at, GivesAt}
 use Rattle.cg_io.proofs.Places.{get_or-bytes_at}

@@ -17,7 +17,7 @@ use Rattle.adf_model.specs.declared.tree.NodeId.{NodeId}
 use Rattle.adf_model.specs.Creation.{empty_node}
 use Rattle.adf_model.specs.Placing.{placed_as}
 use Rattle.adf_model.proofs.Creation.PartsApart.{range_in, cover_all}
-use Rattle.adf_model.proofs.Writes.ManyWrites.{less_or}
+use Rattle.adf_model.proofs.Writes.Reaches.{less_or}
 use Rattle.cg_io.specs.Answers.{IsUntold, OnlyReads}
 use Rattle.cg_io.specs.Blocks.{Both}
 use Rattle.cg_io.specs.Device.{DeviceState}

@@ -20,7 +20,7 @@ use Rattle.adf_model.specs.declared.tree.NodeId.{NodeId}
 use Rattle.adf_model.specs.Creation.{empty_node}
 use Rattle.adf_model.specs.Edits.{file_step, with_new, new_node}
 use Rattle.adf_model.proofs.Creation.CreatedNodes.{there_inside}
-use Rattle.adf_model.proofs.Writes.ManyWrites.{less_or}
+use Rattle.adf_model.proofs.Writes.Reaches.{less_or}
 use Rattle.file_heap.specs.Heap.{FreeSpace, IsThreaded}
 use Rattle.file_heap.proofs.Chunks.{threads_chunks}
 use Rattle.tree_laws.specs.MidEdit.{IsMidEdit, Puts}

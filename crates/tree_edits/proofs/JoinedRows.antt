@@ -4,7 +4,7 @@ use Rattle.std.specs.Prelude.{is_some, slice_index_or, IfSome}
 use Rattle.adf_format.specs.Tree.{Tree, Node, node_at, next_serial, depth_of}
 use Rattle.adf_format.specs.Placement.{Placement}
 use Rattle.adf_format.specs.HeapRule.{parts_at}
-use Rattle.adf_model.proofs.Writes.ManyWrites.{less_or}
+use Rattle.adf_model.proofs.Writes.Reaches.{less_or}
 use Rattle.tree_laws.specs.TreeFacts.{IsJoined}
 use Rattle.tree_edits.specs.declared.rows.Row.{Row}
 use Rattle.tree_edits.specs.Rows.{SaysRow, IsRowOf, IsTable}

@@ -21,7 +21,7 @@ use Rattle.adf_format.proofs.FrameLaws.{field_kept}
 use Rattle.adf_model.specs.declared.tree.Edit.{Edit}
 use Rattle.adf_model.specs.declared.tree.NodeId.{NodeId}
 use Rattle.adf_model.specs.Edits.{file_step, with_new, new_link}
-use Rattle.adf_model.proofs.Writes.ManyWrites.{less_or}
+use Rattle.adf_model.proofs.Writes.Reaches.{less_or}
 use Rattle.file_heap.specs.Heap.{FreeSpace, IsThreaded}
 use Rattle.file_heap.proofs.Chunks.{threads_chunks}
 use Rattle.tree_laws.specs.EditsPlaced.{LinkStands}

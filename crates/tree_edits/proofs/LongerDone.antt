@@ -8,7 +8,7 @@ use Rattle.adf_format.specs.Placement.{Heap, extent}
 use Rattle.adf_format.specs.Tiles.{cover, is_free}
 use Rattle.adf_format.proofs.FrameLaws.{field_kept}
 use Rattle.adf_model.proofs.Creation.PartsApart.{range_out}
-use Rattle.adf_model.proofs.Writes.ManyWrites.{less_or}
+use Rattle.adf_model.proofs.Writes.Reaches.{less_or}
 use Rattle.cg_io.specs.Blocks.{Both}
 use Rattle.file_heap.specs.Beside.{AreBeside}
 use Rattle.file_heap.specs.Heap.{FreeSpace, MayGive}

@@ -10,7 +10,7 @@ use Rattle.adf_format.specs.Placement.{Placement}
 use Rattle.adf_model.specs.declared.tree.Edit.{Edit}
 use Rattle.adf_model.specs.declared.tree.NodeId.{NodeId}
 use Rattle.adf_model.specs.Untouched.{touched_extents, header_extent, table_of, of_parent}
-use Rattle.adf_model.proofs.Writes.ManyWrites.{less_or}
+use Rattle.adf_model.proofs.Writes.Reaches.{less_or}
 use Rattle.field_access.specs.Fields.{IsWithin, WaitsWithin, range}
 use Rattle.field_access.proofs.WaitLaws.{within_self}
 use Rattle.tree_laws.specs.Reached.{LieInTouched}

@@ -7,7 +7,7 @@ use Rattle.adf_format.specs.Placement.{Placement, extent}
 use Rattle.adf_format.proofs.HeapLaws.{in_range}
 use Rattle.adf_format.proofs.HeapSteps.{take_end}
 use Rattle.adf_model.proofs.Creation.PartsApart.{range_in, range_out, cover_all}
-use Rattle.adf_model.proofs.Writes.ManyWrites.{less_or}
+use Rattle.adf_model.proofs.Writes.Reaches.{less_or}
 use Rattle.tree_laws.proofs.Holding.Steps.{from_layout, once}
 use Rattle.file_heap.specs.Beside.{AreBeside}
 use Rattle.file_heap.specs.Heap.{FreeSpace, MayGive}

@@ -22,7 +22,7 @@ use Rattle.adf_model.specs.Tests.{checked, if_there, first_refusal}
 use Rattle.adf_model.specs.Edits.{file_step, with_node, has_named, other_children}
 use Rattle.adf_model.proofs.Basics.{same_Some}
 use Rattle.adf_model.proofs.Following.StepTests.{step_tests}
-use Rattle.adf_model.proofs.Writes.ManyWrites.{less_or}
+use Rattle.adf_model.proofs.Writes.Reaches.{less_or}
 use Rattle.node_reads.specs.Reads.{IsUnread}
 use Rattle.node_reads.specs.declared.find.Wanted.TheVariants.{Name}
 use Rattle.tree_laws.specs.MidEdit.{Puts}

@@ -4,7 +4,7 @@ use Rattle.std.specs.Prelude.{IfSome}
 use Rattle.adf_format.specs.Parts.{table_length}
 use Rattle.adf_format.proofs.HeapLaws.{in_range}
 use Rattle.adf_model.proofs.Creation.PartsApart.{range_in, range_out}
-use Rattle.adf_model.proofs.Writes.ManyWrites.{less_or}
+use Rattle.adf_model.proofs.Writes.Reaches.{less_or}
 use Rattle.cg_io.specs.Blocks.{Both}
 use Rattle.file_heap.specs.Heap.{FreeSpace, MayGive}
 use Rattle.tree_edits.specs.declared.room.Parent.{Parent}

@@ -4,7 +4,7 @@ use Rattle.std.proofs.lemmas.Bool.Decides.{eqb_tells}
 use Rattle.std.specs.Prelude.{Some, slice_get, is_some, ◌==◌, filter, bytes_eq, cond}
 use Rattle.adf_format.specs.Tree.{Tree, IsAmong, is_among, name_at, first_named, AllDiffer}
 use Rattle.adf_model.proofs.Basics.{not_true, or_right, among_head}
-use Rattle.adf_model.proofs.Writes.ManyWrites.{less_or}
+use Rattle.adf_model.proofs.Writes.Reaches.{less_or}
 use Rattle.layout_laws.proofs.NodesStand.{differ_at}
 
 -- what is among is at an index

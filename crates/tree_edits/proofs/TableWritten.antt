@@ -19,8 +19,8 @@ use Rattle.adf_format.proofs.FieldLaws.{same_field, field_whole, writes_joined, 
 use Rattle.adf_format.proofs.FrameLaws.{field_kept}
 use Rattle.adf_format.proofs.SpelledParts.{length-pointer_text}
 use Rattle.adf_format.proofs.ReachedLaws.{more_changes, later_changes}
-use Rattle.adf_model.proofs.Writes.ManyWrites.{less_or}
-use Rattle.adf_model.proofs.Creation.FilledGaps.{get_replicate}
+use Rattle.adf_model.proofs.Writes.Reaches.{less_or}
+use Rattle.adf_model.proofs.Creation.FillerBytes.{get_replicate}
 use Rattle.adf_model.proofs.Creation.PartsApart.{range_out, range_within}
 use Rattle.cg_io.specs.Answers.{Then}
 use Rattle.cg_io.specs.Blocks.{Both, blocks_of}

@@ -4,7 +4,7 @@ use Rattle.std.proofs.lemmas.Bool.Decides.{eqb_tells, nat_tests}
 use Rattle.std.proofs.lemmas.List.{length-set}
 use Rattle.std.specs.Prelude.{slice_set, nat_lt, if◌then◌else◌, option_map, IfSome}
 use Rattle.adf_model.proofs.Basics.{not_true}
-use Rattle.adf_model.proofs.Writes.ManyWrites.{less_or}
+use Rattle.adf_model.proofs.Writes.Reaches.{less_or}
 use Rattle.tree_edits.specs.declared.rows.Row.{Row}
 use Rattle.tree_edits.specs.Rows.{row_of}
 use Rattle.tree_moves.specs.Below.{above_of, climb_rows, is_there, is_below_by, is_below, NoneDeeper, IsDepthBelow, IsDeepest, deeper_row, shifted_row, SetsRow, FitsBelow}

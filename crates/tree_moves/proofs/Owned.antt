@@ -9,7 +9,7 @@ use Rattle.adf_format.specs.LaysOut.{entry_count}
 use Rattle.adf_model.specs.declared.tree.NodeId.{NodeId}
 use Rattle.adf_model.proofs.Basics.{same_Some}
 use Rattle.adf_model.proofs.Creation.PartsApart.{range_in, cover_all}
-use Rattle.adf_model.proofs.Writes.ManyWrites.{less_or}
+use Rattle.adf_model.proofs.Writes.Reaches.{less_or}
 use Rattle.file_heap.specs.Heap.{MayGive}
 use Rattle.node_reads.specs.declared.header.ChildTable.{ChildTable}
 use Rattle.tree_laws.proofs.Holding.Steps.{from_layout, once, up_to_end}

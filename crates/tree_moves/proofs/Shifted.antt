@@ -2,7 +2,7 @@
 use Rattle.std.proofs.Common.{◌≡◌, inl, inr, ℕ, refl, sym, ◌∙◌, ap, subst, arith, List, length, ◌+◌, ◌<◌, ◌≤◌, Bool, true, false, Option, None, Some}
 use Rattle.std.proofs.lemmas.Bool.Decides.{eqb_tells, nat_tests}
 use Rattle.std.specs.Prelude.{◌==◌, nat_lt, if◌then◌else◌, option_map, IfSome}
-use Rattle.adf_model.proofs.Writes.ManyWrites.{less_or}
+use Rattle.adf_model.proofs.Writes.Reaches.{less_or}
 use Rattle.tree_edits.specs.declared.rows.Row.{Row}
 use Rattle.tree_edits.specs.Rows.{row_of}
 use Rattle.tree_moves.specs.Below.{above_of, is_below, deeper_row, shifted_row, SetsRow, Shifts, FitsBelow, SamePlaces}

@@ -1,17 +1,15 @@
--- With one node more, each node is held: the new one and its parent by what was written, the others by bytes that stay.
+-- With one node more, the children that a node had stay, and the entries that named them name them again.
 use Rattle.std.proofs.Common.{◌≡◌, ◌≢◌, ◌⊎◌, inl, inr, ℕ, zero, suc, refl, sym, ◌∙◌, ap, subst, arith, true, List, [], ◌∷◌, ◌++◌, length, map, get_or, ◌<◌}
 use Rattle.std.specs.Prelude.{Option, Some, None, is_some, slice_set, slice_get, ◌==◌, ◌||◌}
 use Rattle.std.proofs.lemmas.List.{length-map, length-set}
 use Rattle.std.proofs.lemmas.Bool.Decides.{eqb_tells}
-use Rattle.adf_format.specs.declared.types.Extent.{Extent}
 use Rattle.adf_format.specs.Tree.{Tree, Node, IsTree, IsAmong, is_among, node_at, children_at, children_of}
-use Rattle.adf_format.specs.Placement.{Placement, Heap, NodeParts, parts_of, node_extents}
-use Rattle.adf_format.specs.LaysOut.{HoldsNode, NamesChildren}
+use Rattle.adf_format.specs.Placement.{Placement, Heap, NodeParts, parts_of}
+use Rattle.adf_format.specs.LaysOut.{NamesChildren}
 use Rattle.adf_format.specs.Parts.{SpellsEntry}
 use Rattle.adf_format.specs.Fields.{text_field}
 use Rattle.adf_format.specs.Pointer.{To}
-use Rattle.adf_format.specs.Changes.{KeepsBut, AllApart, SameChildren}
-use Rattle.adf_format.proofs.FrameLaws.{holds_kept}
+use Rattle.adf_format.specs.Changes.{SameChildren}
 use Rattle.adf_model.proofs.Basics.{same_Some, not_there, not_true, or_right}
 
 -- ---- a list with one item set and one more
@@ -127,29 +125,4 @@ module _ (tree : Tree) (p : Placement) (s : ℕ) (parent : Node) (from to : Node
           subst (λ (k : ℕ). SpellsEntry bytes k now.name place.header) (sym new.0)
           (subst (λ (x : Node). SpellsEntry bytes (length parent.children) x.name place.header) is_node (subst (λ (x : NodeParts). SpellsEntry bytes (length parent.children) node.name x.header) at_parts last))
           )
-    ]
-
-    pub nodes_after : (old new : List ℕ) (ranges : List Extent) (end : ℕ) → KeepsBut ranges end old new
-        → ((k : ℕ) (m : Node) (ms : NodeParts) → k ≢ s → node_at tree k ≡ Some m → parts_of p k ≡ Some ms → AllApart ranges end (node_extents tree.wide ms))
-        → ((k : ℕ) (m : Node) (ms : NodeParts) → node_at tree k ≡ Some m → parts_of p k ≡ Some ms → HoldsNode old tree p m ms)
-        → HoldsNode new tree_after placed_after parent_after to → HoldsNode new tree_after placed_after node parts
-        → (k : ℕ) (m : Node) (ms : NodeParts) → node_at tree_after k ≡ Some m → parts_of placed_after k ≡ Some ms → HoldsNode new tree_after placed_after m ms
-    nodes_after old new ranges end keeps apart holds parent_held node_held k m ms e f = elim (same_or_not k (length tree.nodes)) [
-      | inl same ↦ (
-          let is_node : node ≡ m = same_Some node m (sym (at_new tree.nodes s k (Some parent_after) (Some node) None same) ∙ e) in
-          let at_parts : parts ≡ ms = same_Some parts ms (sym (at_new p.parts s k (Some to) (Some parts) None (same ∙ sym as_many)) ∙ f) in
-          subst (λ (x : Node). HoldsNode new tree_after placed_after x ms) is_node (subst (λ (x : NodeParts). HoldsNode new tree_after placed_after node x) at_parts node_held)
-          )
-      | inr more ↦ elim (same_or_not k s) [
-        | inl same ↦ (
-            let is_node : parent_after ≡ m = same_Some parent_after m (sym (at_set tree.nodes s (Some parent_after) (Some node) None (there_inside tree.nodes s parent here)) ∙ ap (node_at tree_after) (sym same) ∙ e) in
-            let at_parts : to ≡ ms = same_Some to ms (sym (at_set p.parts s (Some to) (Some parts) None (there_inside p.parts s from stands)) ∙ ap (parts_of placed_after) (sym same) ∙ f) in
-            subst (λ (x : Node). HoldsNode new tree_after placed_after x ms) is_node (subst (λ (x : NodeParts). HoldsNode new tree_after placed_after parent_after x) at_parts parent_held)
-            )
-        | inr differ ↦ (
-            let at_node : node_at tree k ≡ Some m = sym (at_other tree.nodes s k (Some parent_after) (Some node) None more differ) ∙ e in
-            let at_parts : parts_of p k ≡ Some ms = sym (at_other p.parts s k (Some to) (Some parts) None (λ same. more (same ∙ as_many)) differ) ∙ f in
-            holds_kept ranges end old new keeps tree tree_after p placed_after m ms refl (apart k m ms differ at_node at_parts) (children_stay k m at_node) (holds k m ms at_node at_parts)
-            )
-      ]
     ]

@@ -1,33 +1,25 @@
--- The parts that a created child is written into: its header, its parent's header, the fillers and the free table.
-use Rattle.std.proofs.Common.{◌≡◌, ◌⊎◌, inl, inr, ℕ, zero, suc, refl, sym, ◌∙◌, ap, subst, arith, List, [], ◌∷◌, ◌++◌, length, replicate, ◌+◌, ◌-◌, ◌*◌, ◌<◌, ◌≤◌, Bool, true, false, length-append}
+-- What a created child is written into: its header and its parent's header; and the bytes of fillers.
+use Rattle.std.proofs.Common.{◌≡◌, inl, inr, ℕ, zero, suc, refl, sym, ◌∙◌, ap, subst, arith, List, length, replicate, ◌+◌, ◌-◌, ◌*◌, ◌<◌, ◌≤◌, Bool, true, false, length-append}
 use Rattle.std.proofs.lemmas.List.{length-replicate}
-use Rattle.std.specs.Prelude.{Option, Some, None, slice_get, IsTrue, filter}
-use Rattle.adf_format.specs.declared.types.Extent.{Extent}
+use Rattle.std.specs.Prelude.{Option, Some, None, slice_get}
 use Rattle.adf_format.specs.Hex.{hex_value}
 use Rattle.adf_format.specs.Pointer.{pointer}
 use Rattle.std.proofs.lemmas.Option.{slice_get_within}
 use Rattle.adf_format.specs.Fields.{field, text_field}
 use Rattle.adf_format.specs.Tree.{Tree}
-use Rattle.adf_format.specs.declared.types.ExtentKind.{ExtentKind}
-use Rattle.adf_format.specs.Tiles.{cover, is_free, is_filler, is_free_kind, is_filler_kind}
-use Rattle.adf_format.specs.Parts.{NodeFields, SpellsNode, HasNumber, HasPointer, IsFiller, SpellsFreeTable, node_length, chunk_count_at, dimension_digits}
+use Rattle.adf_format.specs.Parts.{NodeFields, SpellsNode, HasNumber, HasPointer, IsFiller, node_length, chunk_count_at, dimension_digits}
 use Rattle.adf_format.specs.Placement.{Placement, NodeParts}
-use Rattle.adf_format.specs.LaysOut.{HoldsNode, ThreadsFreeChunks, count_of, first_place, last_place, fields_of}
+use Rattle.adf_format.specs.LaysOut.{HoldsNode, fields_of}
 use Rattle.adf_format.specs.HeapRule.{no_parts}
 use Rattle.adf_format.specs.Records.{node_text}
 use Rattle.adf_format.specs.Spelled.{SaysNode, AllWide}
 use Rattle.adf_format.specs.Changes.{Writes}
-use Rattle.adf_format.proofs.BehindEnd.{counts_itself}
-use Rattle.adf_format.proofs.HeapLaws.{in_range}
 use Rattle.adf_format.proofs.FieldLaws.{field_beside, get_field, length-field}
 use Rattle.adf_format.proofs.SpelledParts.{node_says, node_long}
 use Rattle.adf_model.specs.Edits.{new_node}
 use Rattle.adf_model.specs.Creation.{empty_node}
 use Rattle.adf_model.proofs.Basics.{same_Some, not_there}
-use Rattle.adf_model.proofs.Creation.PartsApart.{range_in, range_out}
-use Rattle.adf_model.proofs.Writes.ManyWrites.{less_or}
-use Rattle.adf_model.specs.Creation.{AllFillers}
-use Rattle.adf_model.proofs.Creation.FilledGaps.{filler_of, get_replicate}
+use Rattle.adf_model.proofs.Creation.FillerBytes.{get_replicate}
 
 -- ---- the header of the new node
 
@@ -125,73 +117,9 @@ counted wide old new text was children entries table w long short s few c e t = 
     at_most false o n le = omega (arith, le)
     at_most true o n le = omega (arith, le)
 
--- ---- the free table, where all gaps are fillers
-
-pub not_free : (k : ExtentKind) → IsTrue (is_filler_kind k) → is_free_kind k ≡ false
-not_free ExtentKind.Header f = refl
-not_free ExtentKind.FreeTable f = refl
-not_free ExtentKind.Node f = refl
-not_free ExtentKind.SubNodes f = refl
-not_free ExtentKind.DataChunk f = refl
-not_free ExtentKind.ChunkTable f = refl
-not_free ExtentKind.FreeChunk f = cc
-not_free ExtentKind.Filler f = refl
-
-none_free : (gaps : List Extent) → AllFillers gaps → filter is_free gaps ≡ []
-none_free [] all = refl
-none_free (g ∷ gs) all = rw (not_free g.kind all.0) (none_free gs all.1)
-
-uncounted : (xs : List Extent) → ((place n : ℕ) → count_of place n xs ≡ 0) → xs ≡ []
-uncounted [] none = refl
-uncounted (e ∷ es) none = absurd (let some = counts_itself e es in let no = none e.place e.length in omega (arith, some, no))
-
-both_empty : (xs ys : List Extent) → xs ++ ys ≡ [] → (xs ≡ []) × (ys ≡ [])
-both_empty [] ys e = (refl, e)
-both_empty (x ∷ xs) ys e = cc
-
-pub threads_stay : (old new : List ℕ) (gaps now : List Extent) → AllFillers gaps → AllFillers now → field new 186 80 ≡ field old 186 80 → ThreadsFreeChunks old gaps → ThreadsFreeChunks new now
-threads_stay old new gaps now all fill same t =
-    let empty : t.small ++ t.medium ++ t.large ≡ [] = uncounted (t.small ++ t.medium ++ t.large) (λ place n. t.all place n ∙ ap (count_of place n) (none_free gaps all)) in
-    let first = both_empty (t.small ++ t.medium) t.large empty in
-    let two = both_empty t.small t.medium first.0 in
-    record {
-      small = [];
-      medium = [];
-      large = [];
-      table = subst (λ bytes. SpellsFreeTable bytes ((None, None) ∷ (None, None) ∷ (None, None) ∷ [])) (sym same)
-          (subst (λ (xs : List Extent). SpellsFreeTable (field old 186 80) ((None, None) ∷ (None, None) ∷ (first_place xs, last_place xs) ∷ [])) first.1
-          (subst (λ (xs : List Extent). SpellsFreeTable (field old 186 80) ((None, None) ∷ (first_place xs, last_place xs) ∷ (first_place t.large, last_place t.large) ∷ [])) two.1
-          (subst (λ (xs : List Extent). SpellsFreeTable (field old 186 80) ((first_place xs, last_place xs) ∷ (first_place t.medium, last_place t.medium) ∷ (first_place t.large, last_place t.large) ∷ [])) two.0 t.table)));
-      each = (tt, tt, tt);
-      all = λ place n. sym (ap (count_of place n) (none_free now fill));
-    }
-
 -- ---- the bytes of fillers
 
 pub z_at : (n place b : ℕ) (image : List ℕ) → IsFiller (field image place n) → place ≤ b → b < place + n → b < length image → slice_get image b ≡ Some 122
 z_at n place b image f low high inside =
     sym (get_field image place n (b - place) b (omega (arith, low, high)) (omega (arith, low)))
     ∙ ap (λ xs. slice_get xs (b - place)) f ∙ get_replicate (length (field image place n)) (b - place) 122 (let e = length-field image place n in omega (arith, e, low, high, inside))
-
--- a byte of a filler is `z`
-pub z_in_gaps : (image : List ℕ) (gaps : List Extent) → AllFillers gaps → ((k : ℕ) (g : Extent) → slice_get gaps k ≡ Some g → IsTrue (is_filler g) → IsFiller (field image g.place g.length))
-    → (b : ℕ) → b < length image → 0 < cover gaps b → slice_get image b ≡ Some 122
-z_in_gaps image [] all fill b inside some = absurd (omega (arith, some))
-z_in_gaps image (g ∷ gs) all fill b inside some =
-    let further = λ (out : (b < g.place) ⊎ (g.place + g.length ≤ b)). z_in_gaps image gs all.1 (λ k h e f. fill (suc k) h e f) b inside (let none = range_out g.place g.length b out in omega (arith, none, some)) in
-    elim (less_or b g.place) [
-      | inl before ↦ further (inl before)
-      | inr from ↦ elim (less_or b (g.place + g.length)) [
-        | inl up ↦ z_at g.length g.place b image (fill 0 g refl all.0) from up inside
-        | inr behind ↦ further (inr behind)
-      ]
-    ]
-
-cover_index : (gaps : List Extent) (k b : ℕ) (g : Extent) → slice_get gaps k ≡ Some g → in_range g.place g.length b ≤ cover gaps b
-cover_index [] k b g e = absurd (not_there g e)
-cover_index (h ∷ gs) zero b g e = subst (λ (x : Extent). in_range x.place x.length b ≤ cover (h ∷ gs) b) (same_Some h g e) (omega arith)
-cover_index (h ∷ gs) (suc k) b g e = let ih = cover_index gs k b g e in omega (arith, ih)
-
--- a gap whose bytes are all `z` is a filler
-pub fillers_of : (image : List ℕ) (gaps : List Extent) → ((b : ℕ) → 0 < cover gaps b → slice_get image b ≡ Some 122) → (k : ℕ) (g : Extent) → slice_get gaps k ≡ Some g → IsTrue (is_filler g) → IsFiller (field image g.place g.length)
-fillers_of image gaps z k g e f = filler_of g.length g.place image (λ b low high. z b (let held = range_in g.place g.length b low high in let some = cover_index gaps k b g e in omega (arith, held, some)))

@@ -9,7 +9,7 @@ use Rattle.adf_format.specs.Tree.{Node, Tree, IsTree, node_at, children_at, chil
 use Rattle.adf_model.specs.Edits.{IsReached, apply, create_tests, new_node, with_new}
 use Rattle.adf_model.proofs.Basics.{NoneHolds, passed, same_Ok, not_false, not_le}
 use Rattle.adf_model.proofs.Keeping.CreateKeeps.{fresh_node}
-use Rattle.adf_model.proofs.Creation.CreateStays.{there}
+use Rattle.adf_model.proofs.Creation.PartExtents.{there}
 use Rattle.adf_model.proofs.Keeping.JoinedChild.{MayJoin}
 use Rattle.adf_model.proofs.Keeping.JoinedChild as joined
 

@@ -24,7 +24,7 @@ use Rattle.adf_model.specs.Edits.{with_node}
 use Rattle.adf_model.specs.NodeData.{HoldsData}
 use Rattle.adf_model.proofs.Basics.{same_Some}
 use Rattle.adf_model.proofs.Creation.CreatedNodes.{there_inside}
-use Rattle.adf_model.proofs.Writes.ManyWrites.{stand_reaches}
+use Rattle.adf_model.proofs.Writes.Reaches.{stand_reaches}
 use Rattle.adf_model.proofs.Creation.PartsApart.{range_out, all_apart, cover_all, cover_part, cover_two, cover_set}
 use Rattle.tree_laws.specs.Holding.{Holds, MeetsNothing}
 use Rattle.tree_laws.specs.DataSwitch.{Switches, DataSwitches, with_data}

@@ -21,7 +21,7 @@ use Rattle.adf_format.proofs.FrameLaws.{field_kept, chunk_table_kept, chunks_kep
 use Rattle.adf_model.specs.NodeData.{HoldsData}
 use Rattle.adf_model.specs.Edits.{with_node}
 use Rattle.adf_model.proofs.Creation.CreatedNodes.{there_inside}
-use Rattle.adf_model.proofs.Writes.ManyWrites.{less_or}
+use Rattle.adf_model.proofs.Writes.Reaches.{less_or}
 use Rattle.adf_model.proofs.Creation.PartsApart.{range_in, range_within, all_apart, cover_all, cover_part}
 use Rattle.tree_laws.specs.Holding.{Holds, ChangesIn}
 use Rattle.tree_laws.specs.DataSwitch.{Switches, with_data, AreSpelled, shape_text, chunks_text, ShapeIsSet, DataIsReplaced, DataIsOverwritten}

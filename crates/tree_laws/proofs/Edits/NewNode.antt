@@ -21,7 +21,7 @@ use Rattle.adf_format.proofs.SpelledParts.{node_says, chunk_says, framed_body}
 use Rattle.adf_model.specs.Edits.{new_link}
 use Rattle.adf_model.proofs.Basics.{not_there, same_Some}
 use Rattle.adf_model.proofs.Creation.CreatedParts.{padded_long, all_same}
-use Rattle.adf_model.proofs.Writes.ManyWrites.{stand_reaches, less_or}
+use Rattle.adf_model.proofs.Writes.Reaches.{stand_reaches, less_or}
 use Rattle.adf_model.proofs.Creation.PartsApart.{range_out, all_apart}
 use Rattle.tree_laws.specs.NodeJoin.{LinkIsHeld, link_record, link_parts}
 use Rattle.tree_laws.proofs.Data.DataSwitched.{frame_reaches, data_reach, own_parts}

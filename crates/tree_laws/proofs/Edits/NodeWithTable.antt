@@ -24,7 +24,7 @@ use Rattle.adf_format.proofs.BehindEnd.{long_chunk_table, long_chunks}
 use Rattle.adf_format.proofs.FieldLaws.{field_around, length-field, field_written, field_left, field_right, field_whole}
 use Rattle.adf_format.proofs.FrameLaws.{field_kept, chunk_table_kept, chunks_kept, data_kept}
 use Rattle.adf_model.specs.Edits.{with_new, given_children}
-use Rattle.adf_model.proofs.Writes.ManyWrites.{stand_reaches}
+use Rattle.adf_model.proofs.Writes.Reaches.{stand_reaches}
 use Rattle.adf_model.proofs.Basics.{same_Some}
 use Rattle.adf_model.proofs.Creation.CreatedNodes.{at_new, at_set, at_other, there_inside, children_stay, names_now, parent_after, tree_after, placed_after, as_many}
 use Rattle.adf_model.proofs.Creation.CreatedParts.{counted}
@@ -35,7 +35,7 @@ use Rattle.tree_laws.proofs.Holding.Steps.{within, keeps_but, once, rebuilt}
 use Rattle.tree_laws.proofs.Tables.TableReplaced.{few_dims}
 use Rattle.tree_laws.proofs.Edits.NewNode.{node_reach, node_stays}
 use Rattle.tree_laws.proofs.Edits.LabelSet.{written_in}
-use Rattle.adf_model.proofs.Creation.TableMoved.{used_long, used_says, text_long, text_spells, old_entry, new_entry}
+use Rattle.adf_model.proofs.Creation.TableText.{used_long, used_says, text_long, text_spells, old_entry, new_entry}
 use Rattle.adf_model.specs.Creation.{used_entries, unused_entries}
 use Rattle.adf_format.specs.Spelled.{framed_text}
 use Rattle.adf_format.proofs.SpelledParts.{length-pointer_text}

@@ -11,7 +11,7 @@ use Rattle.adf_model.specs.declared.tree.NodeId.{NodeId}
 use Rattle.adf_model.specs.Edits.{IsReached, apply, created_by, link_tests, new_node, new_link, with_new}
 use Rattle.adf_model.proofs.Basics.{passed, found, same_Ok, same_Some, not_there, not_false, not_le, not_lt, or_none}
 use Rattle.adf_model.proofs.Keeping.CreatedChild.{parent, may_join, is_new}
-use Rattle.adf_model.proofs.Creation.CreateStays.{there}
+use Rattle.adf_model.proofs.Creation.PartExtents.{there}
 use Rattle.adf_model.proofs.Keeping.JoinedChild.{MayJoin, joined_sound, joined_kind, serial_drawn, child_there, parent_there, last_child, others_stay, above_stay, above_child, child_depth}
 use Rattle.adf_model.proofs.Keeping.LinkKeeps.{IsNode-new_link}
 use Rattle.tree_laws.specs.TreeFacts.{joined_node, changed_node, IsJoined, JoinedInItsTree, SerialsAreDrawn}

@@ -19,7 +19,7 @@ use Rattle.adf_format.proofs.HeapLaws.{in_range}
 use Rattle.adf_format.proofs.FieldLaws.{get_field, length-field}
 use Rattle.adf_format.proofs.FrameLaws.{field_of_first}
 use Rattle.adf_model.proofs.Creation.PartsApart.{range_in, range_out, range_within, cover_all}
-use Rattle.adf_model.proofs.Creation.FilledGaps.{get_replicate}
+use Rattle.adf_model.proofs.Creation.FillerBytes.{get_replicate}
 use Rattle.adf_model.proofs.Basics.{not_there, same_Some}
 use Rattle.adf_format.specs.HeapBytes.{HoldsFillers, MovesEnd, KeepsFillers}
 use Rattle.tree_laws.specs.Holding.{Holds, ChangesIn}

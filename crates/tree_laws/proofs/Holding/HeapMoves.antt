@@ -19,8 +19,8 @@ use Rattle.adf_format.proofs.LayoutLaws.{one_of}
 use Rattle.adf_format.proofs.FieldLaws.{length-field}
 use Rattle.adf_format.proofs.FrameLaws.{field_kept, field_of_first, holds_kept}
 use Rattle.adf_model.proofs.Creation.PartsApart.{range_in, all_apart, cover_all}
-use Rattle.adf_model.proofs.Creation.FilledGaps.{filler_of}
-use Rattle.adf_model.proofs.Writes.ManyWrites.{less_or}
+use Rattle.adf_model.proofs.Creation.FillerBytes.{filler_of}
+use Rattle.adf_model.proofs.Writes.Reaches.{less_or}
 use Rattle.tree_laws.specs.Holding.{Holds, MovesHeap}
 use Rattle.tree_laws.proofs.Holding.Steps.{within, keeps_but}
 

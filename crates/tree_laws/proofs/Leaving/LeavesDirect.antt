@@ -32,7 +32,7 @@ use Rattle.tree_laws.proofs.Edits.LabelSet.{set_here, set_there}
 use Rattle.tree_laws.proofs.Leaving.LeavingLaws.{contains_cover, steps_leave, head_byte}
 use Rattle.tree_laws.proofs.Holding.GiftsFolded.{given_one}
 use Rattle.tree_laws.proofs.Data.DataSwitched.{own_parts}
-use Rattle.adf_model.proofs.Creation.CreateStays.{node_of, of_node}
+use Rattle.adf_model.proofs.Creation.PartExtents.{node_of, of_node}
 
 -- ---- bytes of extents
 

@@ -20,7 +20,7 @@ use Rattle.adf_model.proofs.Creation.PartsApart.{range_in, cover_all}
 use Rattle.tree_laws.specs.Holding.{Holds, Rebuilds, MovesHeap, ChangesIn, MeetsNothing}
 use Rattle.tree_laws.specs.Leaving.{Leaves, Spares}
 use Rattle.tree_laws.proofs.Holding.Steps.{within}
-use Rattle.adf_model.proofs.Creation.CreateStays.{node_of, of_node, none_in}
+use Rattle.adf_model.proofs.Creation.PartExtents.{node_of, of_node, none_in}
 
 -- the bytes of an extent are covered
 pub contains_cover : (xs : List Extent) (e : Extent) (b : ℕ) → Contains xs e → e.place ≤ b → b < end_of e → 0 < cover xs b

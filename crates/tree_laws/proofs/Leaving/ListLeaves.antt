@@ -43,7 +43,7 @@ use Rattle.tree_laws.proofs.Deletes.DeletedTree.{deleted_in_its_tree}
 use Rattle.tree_laws.proofs.Data.DataSwitched.{own_parts}
 use Rattle.tree_laws.proofs.Leaving.LeavesDirect.{covers, dims_byte, own_cases, data_in, sparing_leaves}
 use Rattle.adf_model.proofs.Keeping.MoveKeeps.{among_live}
-use Rattle.adf_model.proofs.Creation.CreateStays.{of_node}
+use Rattle.adf_model.proofs.Creation.PartExtents.{of_node}
 use Rattle.tree_laws.proofs.Leaving.LeavingLaws.{head_byte}
 use Rattle.tree_laws.proofs.Edits.EditsPlaced.{front_get}
 use Rattle.tree_laws.proofs.Tables.TableReplaced.{some_at}

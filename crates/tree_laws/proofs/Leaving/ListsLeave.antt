@@ -21,7 +21,7 @@ use Rattle.tree_laws.specs.Leaving.{Leaves}
 use Rattle.tree_laws.proofs.Holding.Steps.{within, once}
 use Rattle.tree_laws.proofs.Holding.OwnRanges.{data_extents}
 use Rattle.tree_laws.proofs.Leaving.LeavingLaws.{contains_cover, live_kept, head_byte, header_byte}
-use Rattle.adf_model.proofs.Creation.CreateStays.{node_of, none_in}
+use Rattle.adf_model.proofs.Creation.PartExtents.{node_of, none_in}
 
 -- the header and the table of a node
 abbrev pub list_extents : Bool → NodeParts → List Extent

@@ -15,7 +15,7 @@ use Rattle.adf_model.proofs.Basics.{same_Some, not_there}
 use Rattle.adf_model.proofs.Creation.CreatedNodes.{there_inside}
 use Rattle.tree_laws.specs.Parting.{SameParts, NewParts, TableParts, ErasedParts, PartsGoOn, MorePart}
 use Rattle.tree_laws.proofs.Edits.LabelSet.{set_here, set_there}
-use Rattle.adf_model.proofs.Creation.CreateStays.{node_of, of_node}
+use Rattle.adf_model.proofs.Creation.PartExtents.{node_of, of_node}
 
 pub same_header : (o : Option NodeParts) (from to : NodeParts) → o ≡ Some from → o ≡ Some to → to.header ≡ from.header
 same_header o from to e f = ap (λ (parts : NodeParts). parts.header) (same_Some to from (sym f ∙ e))

@@ -26,7 +26,7 @@ use Rattle.tree_laws.proofs.Leaving.LeavingLaws.{contains_cover, live_kept, head
 use Rattle.tree_laws.proofs.Leaving.ListsLeave.{list_extents, list_or_data, list_split, data_in_node, count_or_dims}
 use Rattle.tree_laws.proofs.Moves.MovedNodes.{is_or_not}
 use Rattle.tree_laws.proofs.Holding.OwnRanges.{least, data_extents}
-use Rattle.adf_model.proofs.Creation.CreateStays.{node_of, of_node}
+use Rattle.adf_model.proofs.Creation.PartExtents.{node_of, of_node}
 
 module _ (old new text : List ℕ) (tree : Tree) (p : Placement) (taken : List Extent) (serial table entries : ℕ) (from : NodeParts) (h : Holds old tree p taken) (placed : parts_of p serial ≡ Some from) (w : Writes (from.header + 68) text old new) (long : length text ≡ 28) where
   abbrev q : Placement

@@ -16,7 +16,7 @@ use Rattle.adf_format.proofs.HeapSteps.{cover-append}
 use Rattle.adf_format.proofs.BehindEnd.{long_chunk_table, long_chunks}
 use Rattle.adf_format.proofs.FrameLaws.{chunk_table_kept, chunks_kept, data_kept}
 use Rattle.adf_model.proofs.Basics.{not_there, same_Some, or_none, or_parts, not_true}
-use Rattle.adf_model.proofs.Creation.CreateLaidOut.{short_label, label_of_name}
+use Rattle.adf_model.proofs.Creation.ShortTexts.{short_label, label_of_name}
 use Rattle.adf_model.proofs.Creation.PartsApart.{all_apart, cover_all}
 use Rattle.tree_laws.specs.Holding.{Holds, ChangesIn, MeetsNothing}
 use Rattle.tree_laws.proofs.Holding.Steps.{keeps_but, once, rebuilt}

@@ -21,7 +21,7 @@ use Rattle.adf_format.proofs.HexLaws.{hex_value-hex_text, length-hex_text, point
 use Rattle.adf_format.proofs.BehindEnd.{long_chunk_table, long_chunks}
 use Rattle.adf_format.proofs.FieldLaws.{field_around, length-field, field_written, field_left, field_right, field_whole}
 use Rattle.adf_format.proofs.FrameLaws.{field_kept, chunk_table_kept, chunks_kept, data_kept}
-use Rattle.adf_model.proofs.Writes.ManyWrites.{stand_reaches}
+use Rattle.adf_model.proofs.Writes.Reaches.{stand_reaches}
 use Rattle.adf_model.proofs.Basics.{same_Some, not_true}
 use Rattle.adf_model.proofs.Creation.CreatedNodes.{there_inside}
 use Rattle.adf_model.proofs.Creation.CreatedParts.{counted}
@@ -29,7 +29,7 @@ use Rattle.adf_model.proofs.Creation.PartsApart.{range_in, range_out, range_with
 use Rattle.tree_laws.specs.Holding.{Holds, ChangesIn, MeetsNothing}
 use Rattle.tree_laws.proofs.Holding.Steps.{within, keeps_but, once, rebuilt}
 use Rattle.tree_laws.proofs.Edits.LabelSet.{written_in}
-use Rattle.adf_model.proofs.Creation.TableMoved.{used_long, used_says}
+use Rattle.adf_model.proofs.Creation.TableText.{used_long, used_says}
 use Rattle.adf_model.specs.Creation.{used_entries}
 use Rattle.adf_format.specs.Records.{SubNodes}
 use Rattle.adf_format.specs.Spelled.{framed_text}

@@ -22,7 +22,7 @@ use Rattle.adf_model.specs.Untouched.{touched_extents, most_children}
 use Rattle.adf_model.proofs.Basics.{same_Ok, passed, not_false}
 use Rattle.std.proofs.lemmas.List.Elements.{Contains-append_cases}
 use Rattle.adf_format.specs.Changes.{Writes}
-use Rattle.adf_model.proofs.Creation.CreateStays.{none_in}
+use Rattle.adf_model.proofs.Creation.PartExtents.{none_in}
 use Rattle.adf_model.proofs.Creation.CreatedNodes.{there_inside, at_new}
 use Rattle.adf_model.proofs.Keeping.EditsKeep.{apply_keeps}
 use Rattle.tree_laws.specs.Holding.{Holds}

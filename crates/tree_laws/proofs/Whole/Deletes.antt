@@ -20,7 +20,7 @@ use Rattle.adf_model.specs.Edits.{apply, file_step}
 use Rattle.adf_model.specs.Untouched.{touched_extents, list_of, of_parent}
 use Rattle.adf_model.proofs.Basics.{not_there, same_Some}
 use Rattle.adf_model.proofs.Keeping.MoveKeeps.{among_live}
-use Rattle.adf_model.proofs.Creation.CreateStays.{node_of}
+use Rattle.adf_model.proofs.Creation.PartExtents.{node_of}
 use Rattle.tree_laws.specs.Holding.{Holds}
 use Rattle.tree_laws.specs.MidEdit.{IsMidEdit, Puts, GivesAll}
 use Rattle.tree_laws.specs.Plans.{plan_deleted}

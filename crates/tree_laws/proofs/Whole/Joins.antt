@@ -15,7 +15,7 @@ use Rattle.adf_model.specs.declared.tree.Edit.{Edit}
 use Rattle.adf_model.specs.Edits.{with_new, given_children}
 use Rattle.adf_model.specs.Untouched.{list_of, most_children}
 use Rattle.adf_model.proofs.Basics.{same_Some}
-use Rattle.adf_model.proofs.Creation.CreateStays.{node_of, of_node}
+use Rattle.adf_model.proofs.Creation.PartExtents.{node_of, of_node}
 use Rattle.adf_model.proofs.Creation.CreatedNodes.{at_set, there_inside}
 use Rattle.tree_laws.specs.Parting.{KeepsParts}
 use Rattle.tree_laws.specs.Spared.{AreSpared, KeepsPlaces}

@@ -19,7 +19,7 @@ use Rattle.adf_model.specs.declared.tree.NodeId.{NodeId}
 use Rattle.adf_model.specs.Edits.{apply, file_step, with_new, new_link, IsReached}
 use Rattle.adf_model.specs.Untouched.{touched_extents, most_children}
 use Rattle.adf_format.specs.Changes.{Writes}
-use Rattle.adf_model.proofs.Creation.CreateStays.{none_in}
+use Rattle.adf_model.proofs.Creation.PartExtents.{none_in}
 use Rattle.adf_model.proofs.Creation.CreatedNodes.{there_inside, at_new}
 use Rattle.tree_laws.specs.Holding.{Holds}
 use Rattle.tree_laws.specs.MidEdit.{IsMidEdit, Puts}

@@ -14,7 +14,7 @@ use Rattle.adf_format.proofs.ReachedLaws.{still_changes, more_changes, later_cha
 use Rattle.adf_format.proofs.HeapLaws.{in_range, join_range}
 use Rattle.adf_format.proofs.HeapSteps.{cover-append}
 use Rattle.adf_model.specs.NodeData.{grown_range}
-use Rattle.adf_model.proofs.Writes.ManyWrites.{less_or}
+use Rattle.adf_model.proofs.Writes.Reaches.{less_or}
 use Rattle.adf_model.proofs.Creation.PartsApart.{range_in, range_out, cover_all}
 use Rattle.tree_laws.specs.Holding.{Holds, ChangesIn}
 use Rattle.tree_laws.specs.Gifts.{Gives, GivesEach}

@@ -17,8 +17,8 @@ use Rattle.adf_format.proofs.HeapLaws.{in_range}
 use Rattle.adf_format.proofs.HeapSteps.{cover-append}
 use Rattle.adf_model.specs.FileGroup.{done_by}
 use Rattle.adf_model.specs.Untouched.{touched_extents, group_touched, header_extent, table_of, MayWrite}
-use Rattle.adf_model.proofs.Creation.CreateStays.{of_node}
-use Rattle.adf_model.proofs.Writes.ManyWrites.{less_or}
+use Rattle.adf_model.proofs.Creation.PartExtents.{of_node}
+use Rattle.adf_model.proofs.Writes.Reaches.{less_or}
 use Rattle.adf_model.proofs.Creation.PartsApart.{range_within, cover_all}
 use Rattle.tree_laws.specs.MidEdit.{room}
 use Rattle.tree_laws.specs.Groups.{tree_left}

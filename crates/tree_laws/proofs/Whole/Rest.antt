@@ -22,13 +22,13 @@ use Rattle.adf_model.specs.declared.tree.Edit.{Edit}
 use Rattle.adf_model.specs.Untouched.{KeepsRest, group_touched, most_dims, most_children}
 use Rattle.adf_model.proofs.Basics.{same_Some}
 use Rattle.adf_model.proofs.Creation.CreatedNodes.{there_inside}
-use Rattle.adf_model.proofs.Writes.ManyWrites.{less_or}
+use Rattle.adf_model.proofs.Writes.Reaches.{less_or}
 use Rattle.adf_model.proofs.Creation.PartsApart.{range_in, range_out, range_within, cover_all, cover_two}
 use Rattle.tree_laws.specs.MidEdit.{room}
 use Rattle.tree_laws.specs.Spared.{IsOutside, SparesRest, IsSpared, AreSpared, KeepsPlaces, RestIsLeft}
 use Rattle.tree_laws.proofs.Holding.Steps.{from_layout, within, once}
 use Rattle.std.proofs.lemmas.List.Elements.{Contains-append_cases}
-use Rattle.adf_model.proofs.Creation.CreateStays.{none_in, node_of}
+use Rattle.adf_model.proofs.Creation.PartExtents.{none_in, node_of}
 use Rattle.tree_laws.proofs.Leaving.ListsLeave.{only_one}
 use Rattle.tree_laws.proofs.Leaving.LeavingLaws.{contains_cover, head_byte, header_byte}
 use Rattle.tree_laws.proofs.Whole.Mid.{in_old}

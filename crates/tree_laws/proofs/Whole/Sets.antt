@@ -21,7 +21,7 @@ use Rattle.adf_model.specs.Placing.{placed_as}
 use Rattle.adf_model.specs.Shapes.{dims_of}
 use Rattle.adf_model.specs.Untouched.{touched_extents, data_of, group_shaped, most_dims, rank_of}
 use Rattle.adf_model.proofs.Basics.{same_Some}
-use Rattle.adf_model.proofs.Creation.CreateStays.{node_of, of_node, none_in}
+use Rattle.adf_model.proofs.Creation.PartExtents.{node_of, of_node, none_in}
 use Rattle.adf_model.proofs.Creation.CreatedNodes.{there_inside}
 use Rattle.tree_laws.specs.DataSwitch.{Switches, with_data}
 use Rattle.tree_laws.specs.Holding.{Holds}

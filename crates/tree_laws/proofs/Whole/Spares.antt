@@ -17,7 +17,7 @@ use Rattle.adf_format.proofs.LayoutLaws.{one_of}
 use Rattle.adf_model.specs.declared.tree.Edit.{Edit}
 use Rattle.adf_model.specs.Untouched.{group_shaped, most_dims, most_children}
 use Rattle.adf_model.proofs.Basics.{not_there, same_Some}
-use Rattle.adf_model.proofs.Writes.ManyWrites.{less_or}
+use Rattle.adf_model.proofs.Writes.Reaches.{less_or}
 use Rattle.tree_laws.specs.Spared.{IsOutside, IsSpared, AreSpared}
 use Rattle.tree_laws.proofs.Holding.Steps.{from_layout, once}
 use Rattle.tree_laws.proofs.Edits.LabelDone.{range_holds}

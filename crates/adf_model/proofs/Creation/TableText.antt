@@ -1,71 +1,22 @@
--- A child of a parent whose table is full: the file with the table in a new place, and the old one as filler, holds the tree with the child.
-use Rattle.std.proofs.Common.{◌≡◌, inl, inr, ℕ, suc, refl, sym, ◌∙◌, ap, subst, arith, List, ◌∷◌, ◌++◌, length, replicate, ◌+◌, ◌-◌, ◌*◌, ◌^◌, ◌<◌, ◌≤◌, length-append}
+-- The text of a longer table: the entries that were in use, the new entry and the unused ones.
+use Rattle.std.proofs.Common.{◌≡◌, ℕ, suc, refl, sym, ◌∙◌, ap, subst, arith, List, ◌++◌, length, ◌+◌, ◌-◌, ◌*◌, ◌^◌, ◌<◌, ◌≤◌, length-append}
 use Rattle.std.specs.Prelude.{Option, Some, None, slice_get, codes}
-use Rattle.std.proofs.lemmas.Bool.Decides.{nat_tests}
 use Rattle.std.proofs.lemmas.List.{length-replicate}
 use Rattle.std.proofs.lemmas.Option.{slice_get_within}
-use Rattle.adf_format.specs.declared.types.Extent.{Extent}
-use Rattle.adf_format.specs.declared.types.ExtentKind.{ExtentKind}
 use Rattle.adf_format.specs.Fields.{field, text_field}
 use Rattle.adf_format.specs.Pointer.{To, pointer, pointer_text}
 use Rattle.adf_format.specs.Tree.{Tree, Node, node_at}
-use Rattle.adf_format.specs.Tiles.{cover}
 use Rattle.adf_format.specs.Parts.{SpellsTable, SpellsEntry, IsFramed, table_length}
-use Rattle.adf_format.specs.Placement.{Placement, NodeParts, TablePart, extent, parts_of, table_extents}
-use Rattle.adf_format.specs.LaysOut.{HasTable, AreGapsInOrder}
-use Rattle.adf_format.specs.HeapRule.{put_gap}
+use Rattle.adf_format.specs.Placement.{Placement, NodeParts, TablePart, parts_of}
+use Rattle.adf_format.specs.LaysOut.{HasTable}
 use Rattle.adf_format.specs.Records.{SubNodes, entry_text}
 use Rattle.adf_format.specs.Spelled.{framed_text}
-use Rattle.adf_format.proofs.HeapLaws.{in_range}
 use Rattle.adf_format.proofs.HexLaws.{pointer-pointer_text}
 use Rattle.adf_format.proofs.FieldLaws.{field_left, field_right, field_whole, inner_field, length-field}
 use Rattle.adf_format.proofs.SpelledParts.{entry_long, length-pointer_text, framed_long, framed_says, framed_body}
-use Rattle.adf_model.specs.Creation.{Write, WritesAll, write_extents, fill_writes, used_entries, unused_entries}
+use Rattle.adf_model.specs.Creation.{used_entries, unused_entries}
 use Rattle.adf_model.proofs.Basics.{not_there}
-use Rattle.adf_model.proofs.Creation.PartsApart.{range_in, range_out}
-use Rattle.adf_model.specs.Creation.{AllFillers}
-use Rattle.adf_model.proofs.Creation.FilledGaps.{cover-put_gap, put_gap_in_order, put_fills, z_of}
-use Rattle.adf_model.proofs.Writes.ManyWrites.{less_or, stand_at}
 use Rattle.adf_model.proofs.Creation.CreatedParts.{padded_long}
-
-pub range_join : (p n m b : ℕ) → in_range p (n + m) b ≡ in_range p n b + in_range (p + n) m b
-range_join p n m b = grind (arith, nat_tests)
-
--- ---- the old table as filler
-
-abbrev pub filled : Option TablePart → List Extent → List Extent
-filled None gaps = gaps
-filled (Some t) gaps = put_gap (extent ExtentKind.Filler t.place (table_length t.entries)) gaps
-
-pub cover-filled : (o : Option TablePart) (gaps : List Extent) (b : ℕ) → cover (filled o gaps) b ≡ cover (table_extents o) b + cover gaps b
-cover-filled None gaps b = omega arith
-cover-filled (Some t) gaps b = let e = cover-put_gap (extent ExtentKind.Filler t.place (table_length t.entries)) gaps b in omega (arith, e)
-
-pub filled_fills : (o : Option TablePart) (gaps : List Extent) → AllFillers gaps → AllFillers (filled o gaps)
-filled_fills None gaps all = all
-filled_fills (Some t) gaps all = put_fills (extent ExtentKind.Filler t.place (table_length t.entries)) gaps refl all
-
-pub filled_order : (o : Option TablePart) (gaps : List Extent) → ((b : ℕ) → cover (table_extents o) b + cover gaps b ≤ 1) → AreGapsInOrder gaps → AreGapsInOrder (filled o gaps)
-filled_order None gaps once order = order
-filled_order (Some t) gaps once order =
-    put_gap_in_order (extent ExtentKind.Filler t.place (table_length t.entries)) gaps (omega arith, inr refl) order
-    (λ b low high. let held = range_in t.place (table_length t.entries) b low high in let e = once b in omega (arith, held, e))
-
-pub cover_fills : (o : Option TablePart) (b : ℕ) → cover (write_extents (fill_writes o)) b ≡ cover (table_extents o) b
-cover_fills None b = refl
-cover_fills (Some t) b = ap (λ n. in_range t.place n b + 0) (length-replicate (table_length t.entries) 122)
-
--- a table that is overwritten is all `z`
-pub z_written : (o : Option TablePart) (one two three four : Write) (old new : List ℕ) → WritesAll (one ∷ two ∷ three ∷ four ∷ fill_writes o) old new → (b : ℕ) → 0 < cover (table_extents o) b → slice_get new b ≡ Some 122
-z_written None one two three four old new all b some = absurd (omega (arith, some))
-z_written (Some t) one two three four old new all b some = elim (less_or b t.place) [
-  | inl before ↦ absurd (let out = range_out t.place (table_length t.entries) b (inl before) in omega (arith, out, some))
-  | inr low ↦ elim (less_or b (t.place + table_length t.entries)) [
-    | inl high ↦ z_of (table_length t.entries) t.place b new
-        (stand_at (one ∷ two ∷ three ∷ four ∷ fill_writes (Some t)) old new all 4 t.place (table_length t.entries) (replicate (table_length t.entries) 122) refl (length-replicate (table_length t.entries) 122)) low high
-    | inr behind ↦ absurd (let out = range_out t.place (table_length t.entries) b (inr behind) in omega (arith, out, some))
-  ]
-]
 
 -- ---- the entries in use
 
