@@ -5,6 +5,10 @@ use Rattle.std.specs.Prelude.{◌≡◌, ℕ, ◌+◌, ◌-◌, ◌^◌, ◌≤�
 abbrev pub raised : ℕ → ℕ
 raised n = max n (min (n + 1) (2 ^ 64 - 1))
 
+-- so many more, up to the end of its type
+abbrev pub raised_by : ℕ → ℕ → ℕ
+raised_by n count = max count (min (count + n) (2 ^ 64 - 1))
+
 -- it is higher than before, or stands at the end of its type
 abbrev pub Rose : ℕ → ℕ → Type 0
 Rose before now = min (before + 1) (2 ^ 64 - 1) ≤ now

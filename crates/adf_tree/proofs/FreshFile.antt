@@ -11,7 +11,7 @@ use Rattle.adf_format.specs.LaysOut.{LaysOut, ThreadsFreeChunks}
 use Rattle.adf_format.proofs.BehindEnd.{more_behind}
 use Rattle.adf_format.proofs.FreshLaidOut.{fresh_is_tree, fresh_laid_out, fresh_length}
 use Rattle.adf_format.specs.RecordFields.{node_length}
-use Rattle.adf_model.specs.Counts.{DeviceState, OnlyReads, Rose}
+use Rattle.adf_model.specs.Counts.{DeviceState, OnlyReads, Rose, raised_by}
 use Rattle.adf_model.specs.Steps.{Fresh}
 use Rattle.adf_model.specs.Torn.{TornAt}
 use Rattle.adf_model.specs.declared.error.AdfError.{AdfError}
@@ -19,7 +19,7 @@ use Rattle.adf_model.specs.declared.error.AdfError.TheVariants as error
 use Rattle.adf_model.proofs.Basics.{same_Some}
 use Rattle.adf_model.proofs.Trees.SubtreeLemmas.{root_has_none}
 use Rattle.block_cache.specs.Cache.{IsCache}
-use Rattle.block_draft.specs.Changes.{image_of, with_changes, raised_by, AreChanges, IsPartWritten}
+use Rattle.block_draft.specs.Changes.{image_of, with_changes, AreChanges, IsPartWritten}
 use Rattle.block_draft.specs.Draft.{blocks_below, changes_in}
 use Rattle.cg_io.specs.Answers.{IsRefusal, IsUntold}
 use Rattle.cg_io.proofs.ReadLaws.{only_then}

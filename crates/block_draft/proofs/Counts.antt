@@ -1,9 +1,10 @@
 -- How many blocks are read, changed and written, piece by piece.
 use Rattle.std.proofs.Common.{◌≡◌, ◌*◌, List, ℕ, ◌+◌, ◌≤◌, ◌∙◌, arith}
+use Rattle.adf_model.specs.Counts.{raised_by}
 use Rattle.cg_io.specs.Cause.{raised}
 use Rattle.cg_io.specs.Blocks.{blocks_of}
 use Rattle.cg_io.proofs.PieceLaws.{blocks_of-le}
-use Rattle.block_draft.specs.Changes.{ChangesOnly, ChangesWithin, raised_by}
+use Rattle.block_draft.specs.Changes.{ChangesOnly, ChangesWithin}
 
 -- one more block is changed
 pub within_step : (p d c n start : ℕ) (a b z : List (ℕ × List ℕ)) → ChangesWithin p d a b → ChangesOnly n b z → n * 4096 + start ≡ p + d → 1 ≤ c → start + c ≤ 4096 → blocks_of p d + 1 ≤ blocks_of p (d + c) → ChangesWithin p (d + c) a z

@@ -1,5 +1,5 @@
 -- Changed blocks over bytes that are told.
-use Rattle.std.specs.Prelude.{◌≡◌, ◌⊎◌, ◌≢◌, ℕ, ◌+◌, ◌-◌, ◌*◌, ◌^◌, ◌≤◌, min, max, List, [], ◌∷◌, length, Some, ⊤}
+use Rattle.std.specs.Prelude.{◌≡◌, ◌⊎◌, ◌≢◌, ℕ, ◌+◌, ◌*◌, ◌≤◌, max, List, [], ◌∷◌, length, Some, ⊤}
 use Rattle.std.specs.declared.option.Option.{Option}
 use Rattle.std.specs.Option.{option_map}
 use Rattle.std.specs.Map.{lookup, keys_of}
@@ -19,10 +19,6 @@ with_changes bytes (change ∷ changes) = with_changes (overwritten bytes (chang
 -- the same of bytes that are told
 abbrev pub image_of : Option (List ℕ) → List (ℕ × List ℕ) → Option (List ℕ)
 image_of held changes = option_map (λ bytes. with_changes bytes changes) held
-
--- n more, up to the end of its type
-abbrev pub raised_by : ℕ → ℕ → ℕ
-raised_by n count = max count (min (count + n) (2 ^ 64 - 1))
 
 -- the first changes were written, the block of the next has any bytes, and each of these writes was counted
 abbrev pub IsPartWritten : Option (List ℕ) → ℕ → List (ℕ × List ℕ) → Option (List ℕ) → ℕ → Type 0

@@ -1,11 +1,12 @@
 // Changes of blocks that wait for a commit.
 ghost use Rattle.std.specs.Prelude.{◌≡◌, ◌^◌, ◌+◌, ◌*◌, ◌≤◌, [], length, false, IfErr, OnOk, OnErr};
 ghost use Rattle.std.specs.Borrow.{sem};
+ghost use Rattle.adf_model.specs.Counts.{raised_by};
 ghost use Rattle.cg_io.specs.Cause.{HasCause, Rose};
 ghost use Rattle.cg_io.specs.Device.{Gives, GivesAt};
 ghost use Rattle.cg_io.specs.Blocks.{ReadsFew, blocks_of, Both, Wrote, KeepsOutside};
 ghost use Rattle.cg_io.specs.Waits.{how_many, IsTouched, WaitsOnly};
-ghost use Rattle.block_draft.specs.Changes.{image_of, raised_by, IsPartWritten, AreChanges, ChangesOnly, ChangesWithin};
+ghost use Rattle.block_draft.specs.Changes.{image_of, IsPartWritten, AreChanges, ChangesOnly, ChangesWithin};
 ghost use Rattle.block_draft.specs.Draft.{blocks_below, changes_in, waiting_in, shown_in, state_below, is_sound_below};
 ghost use Rattle.block_draft.specs.Lends.{LendsBlocks};
 ghost use Rattle.cg_io.specs.Answers.{AnswersRead, HasRisen};

@@ -6,13 +6,14 @@ use Rattle.adf_format.specs.declared.types.Extent.{Extent}
 use Rattle.adf_format.specs.Tree.{Tree}
 use Rattle.adf_format.specs.Placement.{Placement}
 use Rattle.adf_format.specs.LaysOut.{LaysOut}
+use Rattle.adf_model.specs.Counts.{raised_by}
 use Rattle.adf_model.specs.declared.tree.Edit.{Edit}
 use Rattle.adf_model.specs.Placing.{place_group}
 use Rattle.adf_model.specs.Torn.{TornAt, TornGroup}
 use Rattle.adf_model.specs.Untouched.{KeepsRest, KeepsTail, MayWrite, group_touched}
 use Rattle.cg_io.specs.Cause.{Rose}
 use Rattle.cg_io.specs.Waits.{Waits}
-use Rattle.block_draft.specs.Changes.{with_changes, IsPartWritten, AreChanges, raised_by}
+use Rattle.block_draft.specs.Changes.{with_changes, IsPartWritten, AreChanges}
 
 -- they are torn at a block, as a write of the bytes that were wanted
 abbrev pub PartIsTorn : Type 0

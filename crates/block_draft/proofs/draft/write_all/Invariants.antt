@@ -1,6 +1,7 @@
 use Rattle.std.proofs.Common.{◌≡◌, ℕ, List, Option, ◌≤◌, ◌+◌, length}
 use Rattle.std.specs.BTreeMap.{btree_map_len}
-use Rattle.block_draft.specs.Changes.{image_of, raised_by, IsPartWritten}
+use Rattle.adf_model.specs.Counts.{raised_by}
+use Rattle.block_draft.specs.Changes.{image_of, IsPartWritten}
 use Rattle.block_draft.proofs.draft.write_all.Given as goal
 
 abbrev pub invariant-loop-number : goal.invariant-loop-number
