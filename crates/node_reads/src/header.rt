@@ -12,6 +12,7 @@ ghost use Rattle.node_reads.specs.Reads.{ReadAt, Breaks, IsUnread, IsFault};
 ghost use Rattle.node_reads.specs.Headers.{header_rows, IsHeader, table_of, table_rows, table_named};
 
 use adf_format::fields::{ENTRY_LENGTH, HEAD_LENGTH, NODE_CHILDREN, NODE_NAME, TAG_LENGTH};
+use adf_format::limits::MOST_CHILDREN;
 use adf_model::AdfError;
 use adf_records::{NodeHeader, decode_named};
 use cg_io::{ReadBytes, read_bytes};
@@ -171,5 +172,3 @@ pub fn child_table(header: &NodeHeader, at: u64) -> Result<ChildTable, AdfError>
     }
     Ok(table)
 }
-
-const MOST_CHILDREN: u32 = 1 << 20;

@@ -14,6 +14,7 @@ ghost use Rattle.tree_edits.specs.Room.{MayCreate, IsRoomCause, HasRoom, IsRoomR
 use crate::label::is_link;
 use crate::memory::Core;
 use crate::rows::Row;
+use adf_format::limits::{DEEPEST, MOST_CHILDREN};
 use adf_model::{AdfError, NodeId, is_label, is_name};
 use cg_io::Space;
 use node_reads::{ChildTable, Wanted, child_table, find_entry, name_field, read_header};
@@ -27,11 +28,7 @@ pub struct Parent {
     pub table: ChildTable,
 }
 
-// How many children a node may have, how far below the root a node may stand, and how many serials may be drawn.
-const MOST_CHILDREN: u32 = 1 << 20;
-
-const DEEPEST: u8 = 255;
-
+// How many serials may be drawn.
 const MOST_SERIALS: u64 = 1 << 48;
 
 // Whether a node that has so many children may have one more, and a serial is left for it.

@@ -9,6 +9,7 @@ ghost use Rattle.tree_edits.specs.Rows.{AreNear};
 ghost use Rattle.tree_moves.specs.Movable.{IsTarget, IsTargetCause, LeavesParent, LacksParent, IsSource, SourceBreaks, clashes, own_entry, LooksUp, IsMoveNear, HasMoveRoom, LacksMoveRoom, MayMove, IsPlaceCause};
 
 use crate::depths::{deepest, is_below};
+use adf_format::limits::{DEEPEST, MOST_CHILDREN};
 use adf_model::{AdfError, NodeId};
 use cg_io::Space;
 use node_reads::{ChildTable, Wanted, child_table, find_entry, read_header};
@@ -37,11 +38,6 @@ pub(crate) struct Move {
     /// Whether that is its parent already: it becomes the last in its list.
     pub(crate) last: bool,
 }
-
-// How many children a node may have, and how far below the root a node may stand.
-const MOST_CHILDREN: u32 = 1 << 20;
-
-const DEEPEST: u32 = 255;
 
 // The node that may get another child, in a file that may be written. By one read.
 fn find_target<S: Space>(space: &mut S, core: &Core, at: NodeId) -> Result<Parent, AdfError>
@@ -187,7 +183,7 @@ fn has_room(core: &Core, node: NodeId, row: Row, to: Parent) -> Result<(), AdfEr
         return Err(AdfError::TooManyChildren);
     }
     let most = deepest(&core.rows, node.serial, row.depth);
-    if u32::from(to.row.depth) + 1 + u32::from(most) > DEEPEST + u32::from(row.depth) {
+    if u32::from(to.row.depth) + 1 + u32::from(most) > u32::from(DEEPEST) + u32::from(row.depth) {
         return Err(AdfError::TooDeep);
     }
     Ok(())
