@@ -4,4 +4,3 @@ pub mod Runs
 pub mod Fills
 pub mod Sizes
 pub mod Growing
-pub mod Pages

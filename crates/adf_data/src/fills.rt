@@ -10,12 +10,11 @@ ghost use Rattle.adf_data.specs.Ranges.{IsSpot, ChangesBytes, HasByte};
 ghost use Rattle.adf_data.specs.Fills.{Fills, ChangesAt, AllZero, ZeroesBytes, CopiesPart, Copies, MakesChunk};
 
 use crate::chunks::Chunk;
-use crate::pages::Page;
 use crate::ranges::{START, Spot, read_range, write_range};
 use crate::spaces::store;
 use adf_chunks::{Part, encode_head, tail};
 use adf_model::AdfError;
-use cg_io::Space;
+use cg_io::{Page, Space};
 use disk_ptr::from_place;
 
 // How many bytes from a place on stand in its block, at most so many.

@@ -1,36 +1,17 @@
 //! Bytes that are read block by block, of which the last is kept: short ranges of one block read it once.
 
-ghost use Rattle.std.specs.Prelude.{◌≡◌, ℕ, ◌^◌, ◌+◌, ◌*◌, ◌≤◌, ◌<◌, List, Option, length, IfErr, OnOk};
+ghost use Rattle.std.specs.Prelude.{◌≡◌, ◌^◌, ◌+◌, ◌*◌, ◌≤◌, ◌<◌, length, IfErr, OnOk};
 ghost use Rattle.cg_io.specs.Device.{Gives, GivesAt};
 ghost use Rattle.cg_io.specs.Answers.{OnlyReads, IsRefusal};
-ghost use Rattle.adf_data.specs.Pages.{IsPage};
+ghost use Rattle.cg_io.specs.Pages.{IsPage};
 
 use crate::spaces::load;
 use adf_model::AdfError;
-use cg_io::{Space, overwrite};
-
-/// The block of a space that was read last.
-#[derive(Drop)]
-pub(crate) struct Page {
-    number: Option<u64>,
-    bytes: [u8; 4096],
-}
-
-impl Page {
-    /// No block is read yet.
-    pub(crate) fn new() -> Page
-        ensures { (image : Option (List ℕ)) → IsPage image result }
-    {
-        Page {
-            number: None,
-            bytes: [0; 4096],
-        }
-    }
-}
+use cg_io::{Page, Space, overwrite};
 
 // Turns to a block, by at most one read of the space.
 #[tactic(auto, using(crate::proofs::PageLaws::page_gives))]
-fn turn_to<S: Space>(space: &mut S, page: &mut Page, n: u64) -> Result<(), AdfError>
+fn turn_to<S: Space>(space: &mut S, page: &mut Page, n: u32) -> Result<(), AdfError>
     requires sound { S.is_sound space.old }
     requires within { n * 4096 + 4096 ≤ 2 ^ 44 }
     requires page { IsPage (S.image space.old) page.old }
@@ -51,7 +32,7 @@ fn turn_to<S: Space>(space: &mut S, page: &mut Page, n: u64) -> Result<(), AdfEr
     }
     // A failed read leaves any bytes.
     page.number = None;
-    match load(space, n * 4096, &mut page.bytes) {
+    match load(space, u64::from(n) * 4096, &mut page.bytes) {
         Ok(()) => {
             page.number = Some(n);
             Ok(())
@@ -99,7 +80,7 @@ pub(crate) fn load_piece<S: Space>(
     if into.len() >= 4096 || start + into.len() > 4096 {
         return load(space, place, into);
     }
-    match turn_to(space, page, place / 4096) {
+    match turn_to(space, page, (place / 4096) as u32) {
         Ok(()) => {}
         Err(error) => return Err(error),
     }

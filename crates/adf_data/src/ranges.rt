@@ -7,14 +7,14 @@ ghost use Rattle.adf_format.specs.Placement.{ChunkPart};
 ghost use Rattle.cg_io.specs.Answers.{OnlyReads, IsRefusal};
 ghost use Rattle.adf_data.specs.Chunks.{part_of, parts_of, part_at, IsSane};
 ghost use Rattle.cg_io.specs.Waits.{WaitsOnly};
-ghost use Rattle.adf_data.specs.Pages.{IsPage};
+ghost use Rattle.cg_io.specs.Pages.{IsPage};
 ghost use Rattle.adf_data.specs.Ranges.{IsSpot, IsSpan, IsRead, WritesBytes, ChangesBytes, HasByte};
 
 use crate::chunks::Chunk;
-use crate::pages::{Page, load_piece, piece_length};
+use crate::pages::{load_piece, piece_length};
 use crate::spaces::store;
 use adf_model::AdfError;
-use cg_io::Space;
+use cg_io::{Page, Space};
 
 /// Where a chunk begins in the data: its number, and the first byte of the data in it.
 #[derive(Clone, Copy)]

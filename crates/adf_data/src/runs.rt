@@ -17,11 +17,10 @@ ghost use Rattle.adf_data.specs.Ranges.{HasByte};
 ghost use Rattle.adf_data.specs.Runs.{EndsIn, run_bytes, run_at, RunsRead, WritesRuns, ChangesPayloads, IsShort, Holds, NoRuns, WritesElements, ChangesDataAlone, payload_extents};
 
 use crate::chunks::{Chunk, list_chunks};
-use crate::pages::Page;
 use crate::place::DataPlace;
 use crate::ranges::{START, chunk_of, read_range, write_range};
 use adf_model::{AdfError, Listing, Run, Runs, Text};
-use cg_io::Space;
+use cg_io::{Page, Space};
 use std::alloc::Global;
 
 /// Bytes of the data one behind another.

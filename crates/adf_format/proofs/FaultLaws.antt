@@ -7,7 +7,7 @@ use Rattle.adf_format.specs.Fields.{field}
 use Rattle.adf_format.specs.Pointer.{place_of}
 use Rattle.adf_format.specs.Tiles.{total_length}
 use Rattle.adf_format.specs.Checks.{Row, Fault, first_broken, Walk, finished, stopped, passed}
-use Rattle.adf_format.specs.FirstFault.{Visit, FreeVisit, free_rows, next_free, free_extent, first_frees, chunk_length, FreeWalk, NodeWalk, is_wide, end_in, found_extents, FirstFault, in_head, at_node, in_list, in_tiling, HasNoFault, head_rows, is_misplaced, extents_found, IsLeastMisplaced}
+use Rattle.adf_format.specs.FirstFault.{Visit, FreeVisit, free_rows, next_free, free_extent, first_frees, chunk_length, FreeWalk, NodeWalk, is_wide, end_in, found_extents, FirstFault, in_head, at_node, in_list, in_tiling, HasNoFault, head_rows, is_misplaced, extents_found, IsLeastMisplaced, free_rows_at}
 use Rattle.adf_format.proofs.WalkLaws.{all_kept, node_walk_ends, room_tells}
 use Rattle.adf_format.proofs.CheckLaws.{one_outcome}
 
@@ -22,7 +22,7 @@ free_total image (w ∷ seen) v = rw (free_total image seen v) (sym (add_assoc (
 -- a free chunk that breaks no rule has room, and is not empty
 free_roomy : (image : List ℕ) (end nodes : ℕ) (seen : List FreeVisit) (v : FreeVisit) → first_broken (free_rows image end nodes seen v) ≡ None
     → (266 + nodes + total_length (map (free_extent image) seen) + chunk_length image v.place ≤ end + 1) × (0 < chunk_length image v.place)
-unfolding free_rows
+unfolding free_rows_at
 free_roomy image end nodes seen v e =
     let kept : AllByRecursion (λ (r : Row). r.kept ≡ true) (free_rows image end nodes seen v) = all_kept (free_rows image end nodes seen v) e in
     let tail : nat_le (v.place + 32) (place_of (field image (v.place + 4) 12) + 4) ≡ true = (both_kept _ _ (both_kept _ _ kept.1.0).0).1 in

@@ -8,7 +8,7 @@ use Rattle.adf_format.specs.Tree.{node_at, children_of, children_at, descend, tr
 use Rattle.adf_format.specs.Fields.{field}
 use Rattle.adf_format.specs.Names.{is_lk}
 use Rattle.adf_format.specs.Checks.{Row, Fault, first_broken, Walk, finished, stopped, passed}
-use Rattle.adf_format.specs.FirstFault.{entries_in, type_or_mt, NodeWalk, visit_rows, count_row, end_in, Visit, root_visit, child_visits, children_in, is_wide}
+use Rattle.adf_format.specs.FirstFault.{entries_in, type_or_mt, NodeWalk, visit_rows, end_in, Visit, root_visit, child_visits, children_in, is_wide, node_rows_at, count_row_at}
 use Rattle.adf_format.specs.SoundPart.{visit_number, children_among, node_of_visit, tree_of}
 use Rattle.adf_format.proofs.ClosureLaws.{IsIn}
 use Rattle.adf_format.proofs.WalkLaws.{all_kept}
@@ -65,7 +65,7 @@ one_part a b c d e r rest h =
 
 -- a node that breaks no rule is not too deep for its children
 not_too_deep : (image : List ℕ) (wide : Bool) (end : ℕ) (seen : List Visit) (v : Visit) → first_broken (visit_rows image wide end seen v) ≡ None → (nat_lt (length v.path) 255 || (children_in image v.place == 0)) ≡ true
-unfolding visit_rows count_row
+unfolding node_rows_at count_row_at
 not_too_deep image wide end seen v e =
     third (nat_le (children_in image v.place) (entries_in image v.place)) (nat_le (children_in image v.place) (2 ^ 20)) (nat_lt (length v.path) 255 || (children_in image v.place == 0))
     (not (is_lk (type_or_mt (field image (v.place + 96) 32))) || (children_in image v.place == 0)) (one_part _ _ _ _ _ _ _ (all_kept (visit_rows image wide end seen v) e).1.1.1)

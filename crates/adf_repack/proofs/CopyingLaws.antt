@@ -3,9 +3,10 @@ use Rattle.std.proofs.Common.{◌≡◌, ℕ, ◌∙◌, ap, arith, refl, sym, [
 use Rattle.cg_io.specs.Device.{DeviceState}
 use Rattle.adf_model.specs.Counts.{OnlyReads}
 use Rattle.adf_model.specs.declared.error.AdfError.{AdfError}
-use Rattle.adf_repack.specs.declared.source.Page.{Page}
+use Rattle.cg_io.specs.declared.pages.Page.{Page}
 use Rattle.adf_repack.specs.declared.writer.BlockWriter.{BlockWriter}
-use Rattle.adf_repack.specs.Sources.{IsReady, IsUnread, IsBroken}
+use Rattle.cg_io.specs.Pages.{IsReady}
+use Rattle.adf_repack.specs.Sources.{IsUnread, IsBroken}
 use Rattle.adf_repack.specs.Writers.{IsWriter, with_more, count_in, blocks_in, state_under, appended_in}
 use Rattle.adf_repack.specs.Copies.{Appends, Copies}
 use Rattle.adf_repack.proofs.WriterLaws.{more_then, more_none, writes_then, writes_none}

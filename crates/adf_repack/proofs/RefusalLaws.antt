@@ -5,7 +5,7 @@ use Rattle.adf_format.specs.Packed.{packed_length, packed_nodes}
 use Rattle.adf_format.specs.Parts.{node_length}
 use Rattle.adf_format.specs.RuleNumbers.{IsRule}
 use Rattle.adf_format.specs.Tree.{Tree, Node}
-use Rattle.adf_model.specs.Counts.{NoCountFell, OnlyReads}
+use Rattle.adf_model.specs.Counts.{NoCountFell, OnlyReads, raised_by}
 use Rattle.adf_model.specs.declared.error.AdfError.{AdfError}
 use Rattle.adf_model.specs.declared.error.AdfError.TheVariants as error
 use Rattle.cg_io.specs.Device.{DeviceState, Reads}
@@ -21,7 +21,7 @@ use Rattle.adf_repack.specs.Planning.{IsRoomFor, IsPlanned, IsUnplanned}
 use Rattle.adf_repack.specs.Plans.{BreaksOne, old_place}
 use Rattle.adf_repack.specs.Repacks.{IsLicensed, wants_memory, unread, unasked, unwritten, not_laid_out, too_long_dimension, not_empty, too_long, IsRefused, IsWritten, LeavesDevice, HasLongDimension}
 use Rattle.adf_repack.specs.Sources.{IsUnread, IsBroken}
-use Rattle.adf_repack.specs.Writers.{OnlyWrites, WritesBlocks, raised_by, blocks_for}
+use Rattle.adf_repack.specs.Writers.{OnlyWrites, WritesBlocks, blocks_for}
 use Rattle.adf_repack.proofs.GivenLaws.{unbroken, measured, one_long, none_long, shapes_are, all_kept}
 use Rattle.adf_repack.proofs.NamedLaws.{file_named, shape_named}
 use Rattle.adf_repack.proofs.OutcomeLaws.{fits, near}

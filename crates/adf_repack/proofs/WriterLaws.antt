@@ -5,9 +5,10 @@ use Rattle.std.proofs.Math.Seq.{take-add}
 use Rattle.std.proofs.lemmas.List.{append-nil, get_or_append_left, get_or-append_right, length-replicate, take-take, take-replicate}
 use Rattle.std.proofs.lemmas.Bool.{cases_lt}
 use Rattle.std.proofs.lemmas.Grind.{same_number_lists}
+use Rattle.adf_model.specs.Counts.{raised_by}
 use Rattle.cg_io.specs.Device.{DeviceState, padded, overwritten, with_block}
 use Rattle.cg_io.proofs.Places.{length-overwritten, overwritten-below, overwritten-within}
-use Rattle.adf_repack.specs.Writers.{with_more, blocks_for, in_blocks, raised_by, WritesBlocks}
+use Rattle.adf_repack.specs.Writers.{with_more, blocks_for, in_blocks, WritesBlocks}
 
 -- ---- bytes that are told
 

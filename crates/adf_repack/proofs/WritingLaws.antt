@@ -11,7 +11,7 @@ use Rattle.layout_lint.specs.declared.verdict.NodePlace.{NodePlace}
 use Rattle.adf_repack.specs.declared.places.NodeShape.{NodeShape}
 use Rattle.adf_repack.specs.declared.plan.Plan.{Plan}
 use Rattle.adf_repack.specs.declared.planning.Planned.{Planned}
-use Rattle.adf_repack.specs.declared.source.Page.{Page}
+use Rattle.cg_io.specs.declared.pages.Page.{Page}
 use Rattle.adf_repack.specs.declared.writer.BlockWriter.{BlockWriter}
 use Rattle.adf_repack.specs.Copies.{IsUnwritten, Writes}
 use Rattle.adf_repack.specs.Measures.{HoldsNone}

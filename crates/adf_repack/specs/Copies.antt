@@ -17,8 +17,9 @@ use Rattle.adf_format.specs.Spelled.{in_row}
 use Rattle.adf_repack.specs.declared.places.NodeShape.{NodeShape}
 use Rattle.adf_repack.specs.declared.writer.BlockWriter.{BlockWriter}
 use Rattle.adf_model.specs.Counts.{OnlyReads}
-use Rattle.adf_repack.specs.declared.source.Page.{Page}
-use Rattle.adf_repack.specs.Sources.{IsReady, IsUnread, IsBroken, IsBeyond}
+use Rattle.cg_io.specs.declared.pages.Page.{Page}
+use Rattle.cg_io.specs.Pages.{IsReady}
+use Rattle.adf_repack.specs.Sources.{IsUnread, IsBroken, IsBeyond}
 use Rattle.adf_repack.specs.Places.{table_room, shape_of}
 use Rattle.adf_repack.specs.Writers.{IsWriter, appended_in, with_more, count_in, blocks_in, state_under, WritesBlocks, OnlyWrites, blocks_for, in_blocks}
 

@@ -13,20 +13,17 @@ use Rattle.adf_repack.specs.declared.places.NodeShape.{NodeShape}
 use Rattle.adf_repack.specs.Copies.{numbers_in}
 use Rattle.adf_repack.specs.Families.{children_of}
 use Rattle.adf_repack.specs.Places.{limited}
+use Rattle.cg_io.specs.Answers.{Told}
 use Rattle.adf_repack.specs.Sources.{IsUnread, IsBroken}
 use Rattle.adf_repack.specs.Plans.{no_shape, HasLong, SaysAt, old_place, record_at}
 
--- what holds of bytes, where they are told
-abbrev pub WhereTold : Option (List ℕ) → (List ℕ → Type 0) → Type 0
-WhereTold held P = (image : List ℕ) → held ≡ Some image → P image
-
 -- a device that tells its bytes holds none
 abbrev pub HoldsNone : Option (List ℕ) → Type 0
-HoldsNone held = WhereTold held (λ bytes. bytes ≡ [])
+HoldsNone held = Told held (λ bytes. bytes ≡ [])
 
 -- and here some
 abbrev pub HoldsSome : Option (List ℕ) → Type 0
-HoldsSome held = WhereTold held (λ bytes. bytes ≢ [])
+HoldsSome held = Told held (λ bytes. bytes ≢ [])
 
 -- ---- one node
 

@@ -15,7 +15,8 @@ use Rattle.adf_model.specs.Counts.{NoCountFell, OnlyReads}
 use Rattle.adf_repack.specs.declared.whole.Target.{Target}
 use Rattle.adf_repack.specs.declared.whole.Target.TheVariants as target
 use Rattle.adf_repack.specs.Given.{in_version}
-use Rattle.adf_repack.specs.Measures.{WhereTold, HoldsNone, HoldsSome}
+use Rattle.cg_io.specs.Answers.{Told}
+use Rattle.adf_repack.specs.Measures.{HoldsNone, HoldsSome}
 use Rattle.adf_repack.specs.Writers.{WritesBlocks, blocks_for}
 
 -- the width of a copy, from that of the file
@@ -51,7 +52,7 @@ pub record IsCopied (wide : Bool) (tree : Tree) (held : Option (List ℕ)) (end 
   pub fits : FitsVersion wide tree
   pub near : packed_length (in_version wide tree) ≤ 2 ^ 44
   pub long : end + 1 ≡ packed_length (in_version wide tree)
-  pub file : WhereTold held (λ bytes. IsPackedFile (in_version wide tree) bytes end)
+  pub file : Told held (λ bytes. IsPackedFile (in_version wide tree) bytes end)
 
 -- each block up to the end was written once, the device was read only to ask for its length, and no count fell
 pub record IsWritten (old new : DeviceState) (end : ℕ) : Type 0 where

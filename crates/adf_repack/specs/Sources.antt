@@ -1,18 +1,7 @@
 -- What is read of the file that is copied.
-use Rattle.std.specs.Prelude.{◌≡◌, ℕ, ◌+◌, ◌^◌, ◌<◌, List, Option, IfSome}
+use Rattle.std.specs.Prelude.{◌≡◌, ℕ, ◌+◌, ◌^◌, ◌<◌}
 use Rattle.cg_io.specs.Cause.{Rose}
-use Rattle.cg_io.specs.Device.{Gives}
 use Rattle.adf_model.specs.declared.error.AdfError.{AdfError}
-use Rattle.adf_repack.specs.declared.source.Page.{Page}
-
--- the block that was read last is as the device has it
-abbrev pub IsPage : Option (List ℕ) → Page → Type 0
-IsPage held page = IfSome page.number (λ n. Gives held n page.bytes)
-
--- blocks whose layer is sound, with the block that was read last
-pub record IsReady (Layer : Type 0) (held : Option (List ℕ)) (page : Page) : Type 0 where
-  pub layer : Layer
-  pub fresh : IsPage held page
 
 -- a failed read, whose count rose
 pub record IsUnread (before now : ℕ) (e : AdfError) : Type 0 where

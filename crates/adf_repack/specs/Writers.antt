@@ -1,8 +1,9 @@
 -- Bytes that are written one behind another from the first byte of a device on, in whole blocks.
-use Rattle.std.specs.Prelude.{◌≡◌, ℕ, ◌+◌, ◌*◌, ◌/◌, ◌-◌, ◌^◌, ◌<◌, ◌≤◌, min, max, List, ◌++◌, length, take, IfSome}
+use Rattle.std.specs.Prelude.{◌≡◌, ℕ, ◌+◌, ◌*◌, ◌/◌, ◌-◌, ◌^◌, ◌<◌, ◌≤◌, List, ◌++◌, length, take, IfSome}
 use Rattle.std.specs.declared.option.Option.{Option}
 use Rattle.std.specs.Option.{option_map}
 use Rattle.cg_io.specs.Device.{DeviceState, padded}
+use Rattle.adf_model.specs.Counts.{raised_by}
 use Rattle.adf_repack.specs.declared.writer.Tail.{Tail}
 use Rattle.adf_repack.specs.declared.writer.BlockWriter.{BlockWriter}
 
@@ -39,10 +40,6 @@ pub record IsWriter {E : Type 0} (state : E → DeviceState) (w : BlockWriter E)
 -- what is appended to bytes that are told
 abbrev pub with_more : Option (List ℕ) → List ℕ → Option (List ℕ)
 with_more bytes more = option_map (λ (b : List ℕ). b ++ more) bytes
-
--- n more, up to the end of its type
-abbrev pub raised_by : ℕ → ℕ → ℕ
-raised_by n count = max count (min (count + n) (2 ^ 64 - 1))
 
 -- the device was not read, and no count of writes fell
 pub record OnlyWrites (old new : DeviceState) : Type 0 where

@@ -6,17 +6,17 @@ ghost use Rattle.adf_repack.specs.Writers.{IsWriter, count_in};
 ghost use Rattle.adf_records.specs.View.{HasOffsets};
 ghost use Rattle.layout_lint.specs.Nodes.{table_of};
 ghost use Rattle.adf_repack.specs.Families.{children_of, IsChain};
-ghost use Rattle.adf_repack.specs.Sources.{IsReady};
+ghost use Rattle.cg_io.specs.Pages.{IsReady};
 ghost use Rattle.adf_repack.specs.Copies.{Copies, no_rule, position_in, copied_entries, BreaksNames};
 
 use crate::families::Families;
 use crate::puts::{put, put_entry};
 use crate::reads::read_name;
-use crate::source::{Page, turn_to};
+use crate::source::turn_to;
 use crate::writer::BlockWriter;
 use adf_model::AdfError;
 use adf_records::NodeHeader;
-use cg_io::{Blocks, Device};
+use cg_io::{Blocks, Device, Page};
 use layout_lint::NodePlace;
 
 /// Appends so many bytes of the file from a place on, with zeros past its end, block by block.

@@ -6,18 +6,17 @@ ghost use Rattle.adf_format.specs.RecordFields.{node_chunks};
 ghost use Rattle.adf_records.specs.View.{record_of, HasOffsets};
 ghost use Rattle.adf_repack.specs.Writers.{IsWriter, count_in};
 ghost use Rattle.adf_repack.specs.Places.{data_room};
-ghost use Rattle.adf_repack.specs.Sources.{IsReady};
+ghost use Rattle.cg_io.specs.Pages.{IsReady};
 ghost use Rattle.adf_repack.specs.Copies.{Copies};
 ghost use Rattle.adf_repack.specs.Payloads.{payloads_of, copied_chunk, copied_data, BreaksData, BreaksContents};
 
 use crate::copies::copy_range;
 use crate::payloads::{read_chunk, read_payload};
 use crate::puts::{put_chunk_end, put_chunk_head};
-use crate::source::Page;
 use crate::writer::BlockWriter;
 use adf_model::AdfError;
 use adf_records::NodeHeader;
-use cg_io::{Blocks, Device};
+use cg_io::{Blocks, Device, Page};
 
 /// Appends the data of a node, so many bytes, in a chunk that stands at a place. The header of the node stands at another one.
 pub fn copy_data<B: Blocks, E: Device>(

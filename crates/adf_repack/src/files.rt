@@ -7,18 +7,17 @@ ghost use Rattle.adf_format.specs.Records.{header_text, free_table_text};
 ghost use Rattle.packed_laws.specs.PackedForm.{packed_header_of};
 ghost use Rattle.adf_repack.specs.Writers.{IsWriter, count_in};
 ghost use Rattle.adf_repack.specs.Places.{length_of};
-ghost use Rattle.adf_repack.specs.Sources.{IsReady};
+ghost use Rattle.cg_io.specs.Pages.{IsReady};
 ghost use Rattle.adf_repack.specs.Copies.{Copies, Writes};
 ghost use Rattle.adf_repack.specs.Plans.{IsPlan, old_place, copied_until, room_until, BreaksOne};
 
 use crate::nodes::copy_nodes;
 use crate::plan::Plan;
 use crate::puts::put_head;
-use crate::source::Page;
 use crate::writer::BlockWriter;
 use adf_format::Format;
 use adf_model::AdfError;
-use cg_io::{Blocks, Device};
+use cg_io::{Blocks, Device, Page};
 use layout_lint::NodePlace;
 
 /// Appends a whole file of so many bytes: its header, its free table, and all nodes.

@@ -42,7 +42,7 @@ pub use puts::{
     put_table_head,
 };
 pub use reads::{read_file_header, read_header, read_name, size_of_data};
-pub use source::{Page, bytes_at, read_at};
+pub use source::{bytes_at, read_at};
 pub use tables::{copy_children, copy_table};
 pub use whole::{Packed, Target, repack, write_packed};
 pub use writer::BlockWriter;

@@ -6,23 +6,21 @@ ghost use Rattle.adf_model.specs.Counts.{OnlyReads};
 ghost use Rattle.adf_records.specs.View.{record_of};
 ghost use Rattle.adf_repack.specs.Families.{children_of};
 ghost use Rattle.adf_repack.specs.Plans.{HasLong, old_place, record_at};
-ghost use Rattle.adf_repack.specs.Sources.{IsReady};
-ghost use Rattle.adf_repack.specs.Measures.{WhereTold, size_in, IsUnmeasured, AllFit, AreMeasured, AreUnmeasured};
+ghost use Rattle.cg_io.specs.Pages.{IsReady};
+ghost use Rattle.cg_io.specs.Answers.{Told};
+ghost use Rattle.adf_repack.specs.Measures.{size_in, IsUnmeasured, AllFit, AreMeasured, AreUnmeasured};
 
 use crate::headers::{dimensions_fit, dimensions_within};
 use crate::nodes::old_place;
 use crate::places::NodeShape;
 use crate::reads::{read_header, size_of_data};
-use crate::source::Page;
 use adf_format::fields::NODE_CHILDREN;
+use adf_format::limits::MOST_CHILDREN;
 use adf_model::AdfError;
 use adf_records::NodeHeader;
-use cg_io::Blocks;
+use cg_io::{Blocks, Page};
 use layout_lint::NodePlace;
 use std::alloc::Global;
-
-// No node has more children.
-const MOST_CHILDREN: u64 = 1 << 20;
 
 // How many bytes of data a node has: none without chunks.
 fn data_size_of(header: &NodeHeader) -> Option<u64>
@@ -49,9 +47,9 @@ pub fn measure_node<B: Blocks>(
     ensures ready { IsReady (B.is_sound blocks.new) (B.state blocks.new).held page.new }
     ensures children { IfOk result (λ shape. shape.children ≡ children) }
     ensures few { IfOk result (λ shape. shape.children ≤ 2 ^ 20) }
-    ensures size { IfOk result (λ shape. WhereTold (B.state blocks.old).held
+    ensures size { IfOk result (λ shape. Told (B.state blocks.old).held
         (λ image. shape.size ≡ size_in (record_at image wide place))) }
-    ensures fits { OnOk result (WhereTold (B.state blocks.old).held
+    ensures fits { OnOk result (Told (B.state blocks.old).held
         (λ image. HasLong to (record_at image wide place) → ⊥)) }
     ensures reads { OnlyReads (B.state blocks.old) (B.state blocks.new) }
     ensures cause { IfErr result (IsUnmeasured (B.state blocks.old).held wide to place children
@@ -64,7 +62,7 @@ pub fn measure_node<B: Blocks>(
     if !dimensions_fit(&dimensions_within(&header), to) {
         return Err(AdfError::BadShape);
     }
-    if children > MOST_CHILDREN {
+    if children > u64::from(MOST_CHILDREN) {
         return Err(AdfError::Layout {
             rule: 22,
             place: place + NODE_CHILDREN.offset as u64,

@@ -5,7 +5,7 @@ ghost use Rattle.adf_format.specs.Parts.{node_length};
 ghost use Rattle.adf_records.specs.View.{record_of, HasOffsets};
 ghost use Rattle.adf_repack.specs.Writers.{IsWriter, count_in};
 ghost use Rattle.adf_repack.specs.Places.{room_of};
-ghost use Rattle.adf_repack.specs.Sources.{IsReady};
+ghost use Rattle.cg_io.specs.Pages.{IsReady};
 ghost use Rattle.adf_repack.specs.Copies.{Copies};
 ghost use Rattle.adf_repack.specs.Plans.{IsPlan, shape_at, header_at, copied_node, BreaksParts, old_place, copied_at, copied_until, room_until, BreaksNode, BreaksOne};
 
@@ -15,12 +15,11 @@ use crate::places::table_room;
 use crate::plan::Plan;
 use crate::puts::put_header;
 use crate::reads::read_header;
-use crate::source::Page;
 use crate::tables::copy_children;
 use crate::writer::BlockWriter;
 use adf_model::AdfError;
 use adf_records::{NodeHeader, node_length};
-use cg_io::{Blocks, Device};
+use cg_io::{Blocks, Device, Page};
 use layout_lint::NodePlace;
 
 /// Appends a node whose header was read at a place: the header, the table of its children and its data.

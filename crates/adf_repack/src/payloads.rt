@@ -5,15 +5,16 @@ ghost use Rattle.adf_format.specs.Fields.{field};
 ghost use Rattle.adf_format.specs.Pointer.{is_place, place_of};
 ghost use Rattle.adf_model.specs.Counts.{OnlyReads};
 ghost use Rattle.adf_records.specs.View.{record_of, HasOffsets};
-ghost use Rattle.adf_repack.specs.Sources.{IsReady, IsUnread, IsBroken};
+ghost use Rattle.cg_io.specs.Pages.{IsReady};
+ghost use Rattle.adf_repack.specs.Sources.{IsUnread, IsBroken};
 ghost use Rattle.adf_repack.specs.Payloads.{chunk_of, chunk_at, payload_length, BreaksEntry, BreaksHead};
 
-use crate::source::{Page, bytes_at};
+use crate::source::bytes_at;
 use adf_chunks::{Part, begins};
 use adf_format::fields::{CHUNK_ENTRY_LENGTH, CHUNK_START, Field, HEAD_LENGTH, HEAD_POINTER};
 use adf_model::AdfError;
 use adf_records::NodeHeader;
-use cg_io::Blocks;
+use cg_io::{Blocks, Page};
 use disk_ptr::DiskPtr;
 use disk_ptr::fields::pointer_at;
 

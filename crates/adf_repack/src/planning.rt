@@ -6,7 +6,7 @@ ghost use Rattle.adf_model.specs.Counts.{OnlyReads};
 ghost use Rattle.cg_io.specs.Device.{Reads};
 ghost use Rattle.adf_repack.specs.Families.{AreParents};
 ghost use Rattle.adf_repack.specs.Plans.{old_place};
-ghost use Rattle.adf_repack.specs.Sources.{IsReady};
+ghost use Rattle.cg_io.specs.Pages.{IsReady};
 ghost use Rattle.adf_repack.specs.Measures.{HoldsNone, AreUnmeasured};
 ghost use Rattle.adf_repack.specs.Planning.{IsDrafted, IsPlanned, IsNoRoom, IsUnplanned};
 
@@ -15,10 +15,9 @@ use crate::measuring::measure;
 use crate::places::{check_length, packed_places};
 use crate::plan::Plan;
 use crate::reads::read_file_header;
-use crate::source::Page;
 use adf_format::Format;
 use adf_model::AdfError;
-use cg_io::{Blocks, Device};
+use cg_io::{Blocks, Device, Page};
 use layout_lint::NodePlace;
 use std::alloc::Global;
 

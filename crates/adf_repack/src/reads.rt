@@ -11,13 +11,14 @@ ghost use Rattle.cg_io.specs.Device.{GivesAt};
 ghost use Rattle.layout_lint.specs.Nodes.{numbers_of, table_of};
 ghost use Rattle.node_reads.specs.Headers.{header_rows, IsHeader};
 ghost use Rattle.node_reads.specs.Reads.{ReadAt, Breaks, IsUnread};
-ghost use Rattle.adf_repack.specs.Sources.{IsReady, IsUnread as IsReadFault, IsBroken, IsBeyond};
+ghost use Rattle.cg_io.specs.Pages.{IsReady};
+ghost use Rattle.adf_repack.specs.Sources.{IsUnread as IsReadFault, IsBroken, IsBeyond};
 
-use crate::source::{Page, bytes_at};
+use crate::source::bytes_at;
 use adf_format::fields::{ENTRY_LENGTH, HEAD_LENGTH, HEADER_LENGTH};
 use adf_model::{AdfError, Shape, size};
 use adf_records::{FileHeader, NodeHeader, decode_header, decode_named, dimensions_of};
-use cg_io::Blocks;
+use cg_io::{Blocks, Page};
 use disk_ptr::DiskPtr;
 
 /// The header of the file: it breaks none of rules 2 to 7.

@@ -1,31 +1,13 @@
-//! Bytes of the file that is copied, read block by block, of which the last is kept.
+//! Bytes of the file that is copied, read block by block, of which the last is kept: a failed read as a copy tells it.
 
-ghost use Rattle.std.specs.Prelude.{◌≡◌, ◌^◌, ◌+◌, ◌≤◌, length, None, IfOk, IfErr, OnOk};
+ghost use Rattle.std.specs.Prelude.{◌≡◌, ◌^◌, ◌+◌, ◌≤◌, length, IfOk, IfErr, OnOk};
 ghost use Rattle.adf_model.specs.Counts.{OnlyReads};
 ghost use Rattle.cg_io.specs.Device.{Gives, GivesAt};
-ghost use Rattle.adf_repack.specs.Sources.{IsReady, IsUnread};
+ghost use Rattle.cg_io.specs.Pages.{IsReady};
+ghost use Rattle.adf_repack.specs.Sources.{IsUnread};
 
 use adf_model::AdfError;
-use cg_io::{Blocks, overwrite};
-
-/// The block that was read last.
-#[derive(Drop)]
-pub struct Page {
-    number: Option<u32>,
-    pub(crate) bytes: [u8; 4096],
-}
-
-impl Page {
-    /// No block is read yet.
-    pub fn new() -> Page
-        ensures { result.number ≡ None }
-    {
-        Page {
-            number: None,
-            bytes: [0; 4096],
-        }
-    }
-}
+use cg_io::{Blocks, Page};
 
 // Turns to a block, by at most one read.
 pub(crate) fn turn_to<B: Blocks>(blocks: &mut B, page: &mut Page, n: u32) -> Result<(), AdfError>
@@ -37,18 +19,8 @@ pub(crate) fn turn_to<B: Blocks>(blocks: &mut B, page: &mut Page, n: u32) -> Res
     ensures cause { IfErr result (IsUnread (B.state blocks.old).faults
         (B.state blocks.new).faults) }
 {
-    if let Some(number) = page.number
-        && number == n
-    {
-        return Ok(());
-    }
-    // A failed read leaves any bytes.
-    page.number = None;
-    match blocks.read_block(n, &mut page.bytes) {
-        Ok(()) => {
-            page.number = Some(n);
-            Ok(())
-        }
+    match cg_io::turn_to(blocks, page, n) {
+        Ok(()) => Ok(()),
         Err(_) => Err(AdfError::ReadFault),
     }
 }
@@ -68,19 +40,10 @@ pub fn read_at<B: Blocks>(
     ensures cause { IfErr result (IsUnread (B.state blocks.old).faults
         (B.state blocks.new).faults) }
 {
-    let mut done = 0;
-    while done < into.len() {
-        let at = place + done as u64;
-        let start = (at % 4096) as usize;
-        let count = (4096 - start).min(into.len() - done);
-        match turn_to(blocks, page, (at / 4096) as u32) {
-            Ok(()) => {}
-            Err(error) => return Err(error),
-        }
-        overwrite(into, done, &page.bytes[start..start + count]);
-        done += count;
+    match cg_io::read_at(blocks, page, place, into) {
+        Ok(()) => Ok(()),
+        Err(_) => Err(AdfError::ReadFault),
     }
-    Ok(())
 }
 
 /// As many bytes from a place on as the caller wants, zeros past the end.

@@ -5,7 +5,7 @@ ghost use Rattle.adf_records.specs.View.{HasOffsets};
 ghost use Rattle.layout_lint.specs.Nodes.{table_of};
 ghost use Rattle.adf_repack.specs.Writers.{IsWriter, count_in};
 ghost use Rattle.adf_repack.specs.Places.{table_room};
-ghost use Rattle.adf_repack.specs.Sources.{IsReady};
+ghost use Rattle.cg_io.specs.Pages.{IsReady};
 ghost use Rattle.adf_repack.specs.Families.{children_of};
 ghost use Rattle.adf_repack.specs.Copies.{Copies, BreaksNames};
 ghost use Rattle.adf_repack.specs.Plans.{IsPlan, shape_at, copied_table, copied_children};
@@ -13,11 +13,10 @@ ghost use Rattle.adf_repack.specs.Plans.{IsPlan, shape_at, copied_table, copied_
 use crate::copies::copy_entries;
 use crate::plan::Plan;
 use crate::puts::{put_table_end, put_table_head};
-use crate::source::Page;
 use crate::writer::BlockWriter;
 use adf_model::AdfError;
 use adf_records::NodeHeader;
-use cg_io::{Blocks, Device};
+use cg_io::{Blocks, Device, Page};
 use layout_lint::NodePlace;
 
 /// Appends the table of the children of a node, where it has children, as `copy_table` does.

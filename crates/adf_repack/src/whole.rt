@@ -7,19 +7,20 @@ ghost use Rattle.adf_model.specs.Counts.{NoCountFell, OnlyReads};
 ghost use Rattle.adf_repack.specs.Copies.{IsUnwritten};
 ghost use Rattle.adf_repack.specs.Families.{AreParents};
 ghost use Rattle.adf_repack.specs.Given.{IsGiven};
-ghost use Rattle.adf_repack.specs.Measures.{WhereTold, HoldsNone};
+ghost use Rattle.cg_io.specs.Answers.{Told};
+ghost use Rattle.adf_repack.specs.Measures.{HoldsNone};
 ghost use Rattle.adf_repack.specs.Planning.{IsPlanned, copied_file};
 ghost use Rattle.adf_repack.specs.Plans.{old_place, BreaksOne};
 ghost use Rattle.adf_repack.specs.Repacks.{width_for, IsCopied, IsWritten, IsLicensed, IsRefused, LeavesDevice, IsRepacked, IsRepackRefusal};
-ghost use Rattle.adf_repack.specs.Sources.{IsReady, IsUnread, IsBroken};
+ghost use Rattle.cg_io.specs.Pages.{IsReady};
+ghost use Rattle.adf_repack.specs.Sources.{IsUnread, IsBroken};
 ghost use Rattle.adf_repack.specs.Writers.{OnlyWrites, WritesBlocks, blocks_for, in_blocks};
 
 use crate::files::write_file;
 use crate::planning::{Planned, plan_copy};
-use crate::source::Page;
 use crate::writer::BlockWriter;
 use adf_model::AdfError;
-use cg_io::{Blocks, Device};
+use cg_io::{Blocks, Device, Page};
 use layout_lint::{NodePlace, NodePlaces, Verdict, lint};
 use std::alloc::Global;
 
@@ -58,12 +59,12 @@ pub fn repack<B: Blocks, E: Device>(
     ensures reads { OnlyReads (B.state blocks.old) (B.state blocks.new) }
     ensures none { OnOk result (HoldsNone (E.state device).held) }
     ensures written { IfOk result (λ p. IsWritten (E.state device) (E.state p.device) p.end) }
-    ensures packed { IfOk result (λ p. WhereTold (B.state blocks.old).held
+    ensures packed { IfOk result (λ p. Told (B.state blocks.old).held
         (λ image. IsRepacked target image (E.state p.device).held p.end)) }
     ensures licensed { IfErr result (λ e. IsLicensed (B.state blocks.old) (B.state blocks.new)
         (E.state device) (E.state e.1) e.0) }
     ensures left { IfErr result (λ e. LeavesDevice (E.state device) (E.state e.1) e.0) }
-    ensures refused { IfErr result (λ e. WhereTold (B.state blocks.old).held
+    ensures refused { IfErr result (λ e. Told (B.state blocks.old).held
         (λ image. IsRepackRefusal target image (E.state device) (E.state e.1) e.0)) }
 {
     match lint(alloc, blocks) {
@@ -99,13 +100,13 @@ pub fn write_packed<B: Blocks, E: Device>(
     ensures reads { OnlyReads (B.state blocks.old) (B.state blocks.new) }
     ensures none { OnOk result (HoldsNone (E.state device).held) }
     ensures written { IfOk result (λ p. IsWritten (E.state device) (E.state p.device) p.end) }
-    ensures packed { IfOk result (λ p. WhereTold (B.state blocks.old).held (λ image. (tree : Tree)
+    ensures packed { IfOk result (λ p. Told (B.state blocks.old).held (λ image. (tree : Tree)
         → IsGiven image nodes.now tree → tree.wide ≡ wide
         → IsCopied wide tree (E.state p.device).held p.end)) }
     ensures licensed { IfErr result (λ e. IsLicensed (B.state blocks.old) (B.state blocks.new)
         (E.state device) (E.state e.1) e.0) }
     ensures left { IfErr result (λ e. LeavesDevice (E.state device) (E.state e.1) e.0) }
-    ensures refused { IfErr result (λ e. WhereTold (B.state blocks.old).held (λ image. (tree : Tree)
+    ensures refused { IfErr result (λ e. Told (B.state blocks.old).held (λ image. (tree : Tree)
         → IsGiven image nodes.now tree → tree.wide ≡ wide → IsRefused wide tree e.0)) }
 {
     match write_nodes(alloc, blocks, wide, wide, nodes.items(), device) {
@@ -142,13 +143,13 @@ fn write_nodes<B: Blocks, E: Device>(
     ensures reads { OnlyReads (B.state blocks.old) (B.state blocks.new) }
     ensures none { OnOk result (HoldsNone (E.state device).held) }
     ensures written { IfOk result (λ p. IsWritten (E.state device) (E.state p.device) p.end) }
-    ensures packed { IfOk result (λ p. WhereTold (B.state blocks.old).held (λ image. (tree : Tree)
+    ensures packed { IfOk result (λ p. Told (B.state blocks.old).held (λ image. (tree : Tree)
         → IsGiven image nodes.now tree → tree.wide ≡ wide
         → IsCopied to tree (E.state p.device).held p.end)) }
     ensures licensed { IfErr result (λ e. IsLicensed (B.state blocks.old) (B.state blocks.new)
         (E.state device) (E.state e.1) e.0) }
     ensures left { IfErr result (λ e. LeavesDevice (E.state device) (E.state e.1) e.0) }
-    ensures refused { IfErr result (λ e. WhereTold (B.state blocks.old).held (λ image. (tree : Tree)
+    ensures refused { IfErr result (λ e. Told (B.state blocks.old).held (λ image. (tree : Tree)
         → IsGiven image nodes.now tree → tree.wide ≡ wide → IsRefused to tree e.0)) }
 {
     let mut page = Page::new();
@@ -186,8 +187,8 @@ fn write_planned<B: Blocks, E: Device>(
     ensures effect { IfOk result (λ p. OnlyWrites (E.state device) (E.state p.device)) }
     ensures counts { IfOk result (λ p. NoCountFell (E.state device) (E.state p.device)) }
     ensures fell { IfErr result (λ e. NoCountFell (E.state device) (E.state e.1)) }
-    ensures held { IfOk result (λ p. WhereTold (B.state blocks.old).held
-        (λ image. WhereTold (E.state p.device).held
+    ensures held { IfOk result (λ p. Told (B.state blocks.old).held
+        (λ image. Told (E.state p.device).held
         (λ held. held ≡ in_blocks (copied_file image wide nodes.now planned.now)))) }
     ensures cause { IfErr result (λ e.
         IsUnread (B.state blocks.old).faults (B.state blocks.new).faults e.0

@@ -9,12 +9,12 @@ use Rattle.std.proofs.lemmas.List.{map-append, length-map}
 use Rattle.std.proofs.lemmas.List.Folds.{list_any-append}
 use Rattle.adf_format.specs.Checks.{first_broken}
 use Rattle.adf_format.specs.Fields.{trimmed}
-use Rattle.adf_format.specs.FirstFault.{Visit, root_visit, is_wide, table_in}
+use Rattle.adf_format.specs.FirstFault.{Visit, root_visit, is_wide, table_in, node_rows_at}
 use Rattle.adf_format.specs.SoundPart.{last_byte}
 use Rattle.adf_format.specs.Tiles.{total_length}
 use Rattle.adf_format.proofs.WalkLaws.{total_length-append}
 use Rattle.adf_model.proofs.Basics.{same_Some, not_there}
-use Rattle.layout_laws.specs.NodePass.{Waiting, IsMet, AreMet, is_known, met_extents, named_node, node_rows_at, waiting_children}
+use Rattle.layout_laws.specs.NodePass.{Waiting, IsMet, AreMet, is_known, met_extents, named_node, waiting_children}
 use Rattle.layout_lint.specs.declared.look.Next.{Next}
 use Rattle.layout_lint.specs.declared.node.Met.{Met}
 use Rattle.layout_lint.specs.declared.stack.Family.{Family}

@@ -3,7 +3,7 @@
 ghost use Rattle.std.specs.Prelude.{ℕ, ◌^◌, ◌+◌, ◌<◌, ◌≤◌, length, map, slice_get, Some, IfOk, IfErr};
 ghost use Rattle.adf_format.specs.Parts.{node_length};
 ghost use Rattle.adf_model.specs.Counts.{OnlyReads};
-ghost use Rattle.layout_lint.specs.Told.{Told};
+ghost use Rattle.cg_io.specs.Answers.{Told};
 ghost use Rattle.layout_lint.specs.Halts.{MayLackMemory};
 ghost use Rattle.layout_lint.specs.Shapes.{AreLinked, AreWithin};
 ghost use Rattle.layout_lint.specs.Walks.{node_place};

@@ -3,7 +3,8 @@
 ghost use Rattle.std.specs.Prelude.{◌≡◌, ◌^◌, ◌+◌, ◌<◌, ◌≤◌, ◌++◌, ◌∷◌, [], map, length, replicate, true, false, unwrap_or, Some, IfOk, IfErr, OnOk};
 ghost use Rattle.adf_model.specs.Counts.{OnlyReads};
 ghost use Rattle.layout_laws.specs.NodePass.{named_node};
-ghost use Rattle.layout_lint.specs.Told.{Told, IsReady};
+ghost use Rattle.cg_io.specs.Answers.{Told};
+ghost use Rattle.cg_io.specs.Pages.{IsReady};
 ghost use Rattle.layout_lint.specs.Halts.{MayLackMemory, IsNoFault};
 ghost use Rattle.layout_lint.specs.Shapes.{MayFollow, met_place};
 ghost use Rattle.layout_lint.specs.Walks.{node_place, waiting_of, waiting_in};

@@ -3,7 +3,8 @@
 ghost use Rattle.std.specs.Prelude.{IfOk, IfErr, OnOk};
 ghost use Rattle.std.specs.List.{All};
 ghost use Rattle.adf_model.specs.Counts.{OnlyReads};
-ghost use Rattle.adf_repack.specs.Measures.{WhereTold, HoldsNone};
+ghost use Rattle.cg_io.specs.Answers.{Told};
+ghost use Rattle.adf_repack.specs.Measures.{HoldsNone};
 ghost use Rattle.adf_repack.specs.Repacks.{IsWritten, IsLicensed, LeavesDevice};
 ghost use Rattle.adf_salvage.specs.LeftOut.{HasRule};
 ghost use Rattle.adf_salvage.specs.Salvages.{IsSalvaged, IsSalvageRefusal};
@@ -40,13 +41,13 @@ pub fn salvage<B: Blocks, E: Device>(
     ensures reads { OnlyReads (B.state blocks.old) (B.state blocks.new) }
     ensures none { OnOk result (HoldsNone (E.state device).held) }
     ensures written { IfOk result (λ s. IsWritten (E.state device) (E.state s.device) s.end) }
-    ensures salvaged { IfOk result (λ s. WhereTold (B.state blocks.old).held
+    ensures salvaged { IfOk result (λ s. Told (B.state blocks.old).held
         (λ image. IsSalvaged image (E.state s.device).held s.end s.left)) }
     ensures rules { IfOk result (λ s. All HasRule s.left) }
     ensures licensed { IfErr result (λ e. IsLicensed (B.state blocks.old) (B.state blocks.new)
         (E.state device) (E.state e.1) e.0) }
     ensures left { IfErr result (λ e. LeavesDevice (E.state device) (E.state e.1) e.0) }
-    ensures refused { IfErr result (λ e. WhereTold (B.state blocks.old).held
+    ensures refused { IfErr result (λ e. Told (B.state blocks.old).held
         (λ image. IsSalvageRefusal image (E.state device) (E.state e.1) e.0)) }
 {
     let part = match sound_part(alloc, blocks) {

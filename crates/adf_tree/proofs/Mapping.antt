@@ -19,10 +19,9 @@ use Rattle.block_draft.specs.Draft.{blocks_below, changes_in}
 use Rattle.block_draft.specs.Lends.{with_blocks}
 use Rattle.block_draft.specs.declared.draft.Draft.{Draft}
 use Rattle.cg_io.proofs.ReadLaws.{few_only}
-use Rattle.cg_io.specs.Answers.{IsRefusal, IsUntold}
+use Rattle.cg_io.specs.Answers.{IsRefusal, IsUntold, Told}
 use Rattle.cg_io.specs.Blocks.{ReadsFew}
 use Rattle.layout_lint.specs.Owners.{IsLaidAt, IsNoLayout, OwnsPlaces, extent_of, header_at, header_places}
-use Rattle.layout_lint.specs.Told.{Told}
 use Rattle.layout_lint.specs.declared.owners.Owned.{Owned}
 use Rattle.tree_edits.proofs.Nodes.{no_node, the_node}
 use Rattle.tree_edits.specs.declared.memory.Core.{Core}

@@ -12,14 +12,13 @@ use Rattle.adf_model.specs.Counts.{DeviceState, OnlyReads}
 use Rattle.adf_model.specs.Steps.{Opening, Stored}
 use Rattle.adf_model.specs.declared.error.AdfError.{AdfError}
 use Rattle.adf_model.specs.declared.error.AdfError.TheVariants as error
-use Rattle.cg_io.specs.Answers.{IsRefusal, IsUntold}
+use Rattle.cg_io.specs.Answers.{IsRefusal, IsUntold, Told}
 use Rattle.cg_io.specs.Blocks.{ReadsFew}
 use Rattle.file_heap.specs.Heap.{IsHeap, IsThreaded}
 use Rattle.layout_lint.specs.declared.verdict.NodePlace as code
 use Rattle.layout_lint.specs.declared.verdict.Verdict.{Verdict}
 use Rattle.layout_lint.specs.declared.verdict.Verdict.TheVariants as says
 use Rattle.layout_lint.specs.Shapes.{HasShape, IsShaped}
-use Rattle.layout_lint.specs.Told.{Told}
 use Rattle.layout_lint.specs.Verdicts.{IsVerdict, MayFail, NamesRule}
 use Rattle.layout_lint.specs.Walks.{node_place}
 use Rattle.tree_edits.specs.declared.memory.Core.{Core}

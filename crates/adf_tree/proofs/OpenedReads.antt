@@ -11,7 +11,7 @@ use Rattle.adf_model.specs.Steps.{Opening, Fresh, Stored}
 use Rattle.cg_io.specs.Blocks.{ReadsFew}
 use Rattle.layout_lint.specs.declared.verdict.NodePlace as code
 use Rattle.layout_lint.specs.Shapes.{IsShaped}
-use Rattle.layout_lint.specs.Told.{Told}
+use Rattle.cg_io.specs.Answers.{Told}
 use Rattle.adf_tree.specs.declared.file.AdfFile.{AdfFile}
 use Rattle.adf_tree.specs.declared.file.OpenRefused.{OpenRefused}
 use Rattle.adf_tree.specs.Opening.{HasVerdict, ReadsWithin}

@@ -16,7 +16,7 @@ use Rattle.adf_model.specs.declared.mode.Mode.{Mode}
 use Rattle.adf_model.specs.declared.mode.Mode.TheVariants as mode
 use Rattle.layout_lint.specs.declared.verdict.NodePlace as code
 use Rattle.layout_lint.specs.Shapes.{IsShaped}
-use Rattle.layout_lint.specs.Told.{Told}
+use Rattle.cg_io.specs.Answers.{Told}
 use Rattle.layout_lint.specs.Walks.{node_place}
 use Rattle.tree_edits.specs.declared.memory.Core.{Core}
 use Rattle.tree_edits.specs.declared.rows.Row.{Row}

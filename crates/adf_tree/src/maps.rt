@@ -3,7 +3,7 @@
 ghost use Rattle.std.specs.Prelude.{◌≡◌, ◌++◌, ◌+◌, ◌*◌, length, IfOk, IfErr, OnOk};
 ghost use Rattle.adf_model.specs.declared.error.AdfError.{AdfError};
 ghost use Rattle.cg_io.specs.Blocks.{ReadsFew};
-ghost use Rattle.layout_lint.specs.Told.{Told};
+ghost use Rattle.cg_io.specs.Answers.{Told};
 ghost use Rattle.adf_tree.specs.Files.{IsFile, device_of, state_of};
 ghost use Rattle.adf_tree.specs.Headers.{Looks};
 ghost use Rattle.adf_tree.specs.Maps.{MapEnds, live_places, place_in};

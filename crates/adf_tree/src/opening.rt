@@ -7,7 +7,7 @@ ghost use Rattle.adf_model.specs.Steps.{Fresh, Stored};
 ghost use Rattle.block_cache.specs.Cache.{IsCache, device_in};
 ghost use Rattle.cg_io.specs.Blocks.{ReadsFew};
 ghost use Rattle.layout_lint.specs.Shapes.{IsShaped};
-ghost use Rattle.layout_lint.specs.Told.{Told};
+ghost use Rattle.cg_io.specs.Answers.{Told};
 ghost use Rattle.layout_lint.specs.Walks.{node_place};
 ghost use Rattle.adf_tree.specs.Files.{IsFile, device_of, state_of};
 ghost use Rattle.adf_tree.specs.Opening.{opened_row, opened_from, HasVerdict, Stands, IsOpened, IsRefused, IsEmpty, IsEmptyCause, OpensFresh, OpensStored, ReadsWithin};

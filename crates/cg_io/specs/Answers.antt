@@ -44,6 +44,10 @@ pub record AnswersWrite {S T E : Type 0} (is_sound : S → Type 0) (state : S �
 
 -- ---- bytes that are told, or not
 
+-- what holds of the bytes, where they are told; IfSome says the same by cases
+abbrev pub Told : Option (List ℕ) → (List ℕ → Type 0) → Type 0
+Told held P = (bytes : List ℕ) → held ≡ Some bytes → P bytes
+
 -- bytes that are not told
 abbrev pub IsUntold : Option (List ℕ) → Type 0
 IsUntold None = ⊤

@@ -8,6 +8,11 @@ use Rattle.cg_io.specs.declared.pages.Pages.{Pages}
 abbrev pub IsPage : Option (List ℕ) → Page → Type 0
 IsPage held page = IfSome page.number (λ n. Gives held n page.bytes)
 
+-- blocks whose layer is sound, with the block that was read last
+pub record IsReady (Layer : Type 0) (held : Option (List ℕ)) (page : Page) : Type 0 where
+  pub layer : Layer
+  pub fresh : IsPage held page
+
 -- the blocks below pages
 abbrev pub blocks_under : {B : Type 0} → Pages B → B
 blocks_under pages = pages.blocks
@@ -20,6 +25,5 @@ abbrev pub held_under : {B : Type 0} → (B → DeviceState) → Pages B → Opt
 held_under state pages = (state_under state pages).held
 
 -- blocks that are sound, with a page of their device
-pub record ArePages {B : Type 0} (is_sound : B → Type 0) (state : B → DeviceState) (pages : Pages B) : Type 0 where
-  pub layer : is_sound (blocks_under pages)
-  pub fresh : IsPage (held_under state pages) pages.page
+abbrev pub ArePages : {B : Type 0} → (B → Type 0) → (B → DeviceState) → Pages B → Type 0
+ArePages is_sound state pages = IsReady (is_sound (blocks_under pages)) (held_under state pages) pages.page

@@ -19,6 +19,6 @@ pub use bytes::overwrite;
 pub use device::{Device, DeviceFault};
 pub use memory::MemoryDevice;
 pub use memory_stream::{MemorySink, MemorySource};
-pub use pages::Pages;
+pub use pages::{Page, Pages, read_at, turn_to};
 pub use space::{ReadBytes, ReadFault, Space, SpaceFault};
 pub use stream::{Sink, Source, StreamFault};

@@ -1,18 +1,33 @@
 // Blocks as bytes by their places.
-ghost use Rattle.std.specs.Prelude.{◌≡◌, ◌^◌, ◌+◌, ◌≤◌, [], length, None, IfOk, IfErr, IfSome, OnOk};
-ghost use Rattle.cg_io.specs.Device.{Gives};
-ghost use Rattle.cg_io.specs.Blocks.{ReadsFew};
+ghost use Rattle.std.specs.Prelude.{◌≡◌, ◌^◌, ◌+◌, ◌≤◌, ℕ, List, Option, [], length, None, IfOk, IfErr, IfSome, OnOk};
+ghost use Rattle.cg_io.specs.Device.{Gives, GivesAt};
+ghost use Rattle.cg_io.specs.Blocks.{ReadsFew, blocks_of};
 ghost use Rattle.cg_io.specs.Answers.{AnswersRead, HasRisen};
-ghost use Rattle.cg_io.specs.Pages.{ArePages, IsPage, blocks_under, held_under, state_under};
+ghost use Rattle.cg_io.specs.Pages.{ArePages, IsPage, IsReady, blocks_under, held_under, state_under};
 
 use crate::bytes::overwrite;
 use crate::{Blocks, ReadBytes, ReadFault};
 
-// The block that was read last.
+/// The block that was read last.
 #[derive(Drop)]
-struct Page {
-    number: Option<u32>,
-    bytes: [u8; 4096],
+pub struct Page {
+    /// Its number, if one was read.
+    pub number: Option<u32>,
+    /// Its bytes.
+    pub bytes: [u8; 4096],
+}
+
+impl Page {
+    /// No block is read yet.
+    pub fn new() -> Page
+        ensures none { result.number ≡ None }
+        ensures fresh { (held : Option (List ℕ)) → IsPage held result }
+    {
+        Page {
+            number: None,
+            bytes: [0; 4096],
+        }
+    }
 }
 
 /// Blocks as bytes by their places, with the block that was read last.
@@ -28,11 +43,10 @@ impl<B: Blocks> Pages<B> {
         ensures blocks { blocks_under result ≡ blocks }
         ensures sound { B.is_sound blocks → ArePages B.is_sound B.state result }
     {
-        let page = Page {
-            number: None,
-            bytes: [0; 4096],
-        };
-        Pages { blocks, page }
+        Pages {
+            blocks,
+            page: Page::new(),
+        }
     }
 
     /// The blocks below.
@@ -59,12 +73,10 @@ impl<B: Blocks> Pages<B> {
     }
 }
 
-// Turns to a block, by at most one read.
-fn turn_to<B: Blocks>(blocks: &mut B, page: &mut Page, n: u32) -> Result<(), ReadFault>
-    requires sound { B.is_sound blocks.old }
-    requires fresh { IsPage (B.state blocks.old).held page.old }
-    ensures sound { B.is_sound blocks.new }
-    ensures fresh { IsPage (B.state blocks.new).held page.new }
+/// Turns to a block, by at most one read: none where the page has it.
+pub fn turn_to<B: Blocks>(blocks: &mut B, page: &mut Page, n: u32) -> Result<(), ReadFault>
+    requires { IsReady (B.is_sound blocks.old) (B.state blocks.old).held page.old }
+    ensures ready { IsReady (B.is_sound blocks.new) (B.state blocks.new).held page.new }
     ensures told { OnOk result (Gives (B.state blocks.old).held n page.new.bytes) }
     ensures long { length page.new.bytes ≡ 4096 }
     ensures effect { ReadsFew 1 (B.state blocks.old) (B.state blocks.new) }
@@ -87,6 +99,38 @@ fn turn_to<B: Blocks>(blocks: &mut B, page: &mut Page, n: u32) -> Result<(), Rea
     }
 }
 
+/// Reads the bytes from a place on, zeros past the end: each block that they touch at most once, and not the one that the
+/// page has.
+pub fn read_at<B: Blocks>(
+    blocks: &mut B,
+    page: &mut Page,
+    place: u64,
+    into: &mut [u8],
+) -> Result<(), ReadFault>
+    requires ready { IsReady (B.is_sound blocks.old) (B.state blocks.old).held page.old }
+    requires within { place + length into.old ≤ 2 ^ 44 }
+    ensures ready { IsReady (B.is_sound blocks.new) (B.state blocks.new).held page.new }
+    ensures told { OnOk result (GivesAt (B.state blocks.old).held place into.new) }
+    ensures effect { ReadsFew (blocks_of place (length into.old)) (B.state blocks.old)
+        (B.state blocks.new) }
+    ensures cause { IfErr result (HasRisen (B.state blocks.old).faults
+        (B.state blocks.new).faults) }
+{
+    let mut done = 0;
+    while done < into.len() {
+        let at = place + done as u64;
+        let start = (at % 4096) as usize;
+        let count = (4096 - start).min(into.len() - done);
+        match turn_to(blocks, page, (at / 4096) as u32) {
+            Ok(()) => {}
+            Err(fault) => return Err(fault),
+        }
+        overwrite(into, done, &page.bytes[start..start + count]);
+        done += count;
+    }
+    Ok(())
+}
+
 impl<B: Blocks> ReadBytes for Pages<B> {
     ghost image = { λ p. held_under B.state p };
 
@@ -97,18 +141,6 @@ impl<B: Blocks> ReadBytes for Pages<B> {
     ghost waiting = { λ _. [] };
 
     fn read(&mut self, place: u64, into: &mut [u8]) -> Result<(), ReadFault> {
-        let mut done = 0;
-        while done < into.len() {
-            let at = place + done as u64;
-            let start = (at % 4096) as usize;
-            let count = (4096 - start).min(into.len() - done);
-            match turn_to(&mut self.blocks, &mut self.page, (at / 4096) as u32) {
-                Ok(()) => {}
-                Err(fault) => return Err(fault),
-            }
-            overwrite(into, done, &self.page.bytes[start..start + count]);
-            done += count;
-        }
-        Ok(())
+        read_at(&mut self.blocks, &mut self.page, place, into)
     }
 }

@@ -12,7 +12,7 @@ use Rattle.adf_format.specs.Tiles.{is_free, total_length}
 use Rattle.adf_format.specs.Parts.{SpellsHeader, IsFramed, HasPointer, version_letter, format_letter}
 use Rattle.adf_format.specs.LaysOut.{IsThreaded, ThreadsFreeChunks, HasSameRanges, first_place, last_place}
 use Rattle.adf_format.specs.Checks.{Fault, first_broken, Walk, finished, stopped, passed}
-use Rattle.adf_format.specs.FirstFault.{Visit, FreeVisit, FreeWalk, free_rows, next_free, free_extent, first_frees, visits_through, chunk_length, is_pointer_to, last_at, head_rows, row_of_length, header_rows, free_table_rows, end_rows, is_wide, end_in, found_extents, count_up}
+use Rattle.adf_format.specs.FirstFault.{Visit, FreeVisit, FreeWalk, free_rows, next_free, free_extent, first_frees, visits_through, chunk_length, is_pointer_to, last_at, head_rows, row_of_length, header_rows, free_table_rows, end_rows, is_wide, end_in, found_extents, count_up, free_rows_at}
 use Rattle.adf_format.specs.SoundPart.{format_in}
 use Rattle.adf_format.proofs.FieldLaws.{inner_field}
 use Rattle.adf_format.proofs.FrameLaws.{field_of_first}
@@ -139,7 +139,7 @@ pub record FreeRead (image : List ℕ) (v : FreeVisit) : Type 0 where
   pub last : (is_place (field image (v.place + 16) 12) || is_pointer_to (field image (last_at v.list) 12) v.place) ≡ true
 
 pub free_read : (image : List ℕ) (end nodes : ℕ) (seen : List FreeVisit) (v : FreeVisit) → Kept (free_rows image end nodes seen v) → FreeRead image v
-unfolding free_rows
+unfolding free_rows_at
 free_read image end nodes seen v h =
     let tag = (and_parts _ _ h.0).1 in
     let near = and_parts _ _ h.1.0 in

@@ -15,7 +15,7 @@ use Rattle.adf_format.specs.Parts.{SpellsNode, SpellsChunk, SpellsChunkTable, Sp
 use Rattle.adf_format.specs.Placement.{Placement, NodeParts, TablePart, ChunkPart, parts_of}
 use Rattle.adf_format.specs.LaysOut.{HoldsNode, HasTable, HasChunkTable, HasData, NamesChildren, entry_count, chunk_pointer}
 use Rattle.adf_format.specs.Checks.{Row, first_broken}
-use Rattle.adf_format.specs.FirstFault.{Visit, ChunkVisit, NodeWalk, head_rows, visit_rows, node_rows, count_row, table_rows, entry_rows, chunk_table_rows, chunk_rows, rows_unless, fits, is_named, type_or_mt, children_in, entries_in, table_in, dims_in, chunk_count, chunk_in, chunks_in, chunk_visits, chunk_length, payloads_in, entry_name, entry_pointer, agrees, is_wide, end_in}
+use Rattle.adf_format.specs.FirstFault.{Visit, ChunkVisit, NodeWalk, head_rows, visit_rows, node_rows, count_row, table_rows, entry_rows, chunk_table_rows, chunk_rows, rows_unless, fits, is_named, type_or_mt, children_in, entries_in, table_in, dims_in, chunk_count, chunk_in, chunks_in, chunk_visits, chunk_length, payloads_in, entry_name, entry_pointer, agrees, is_wide, end_in, node_rows_at, count_row_at}
 use Rattle.adf_format.specs.SoundPart.{data_when, children_among, node_of_visit, visit_number, tree_of}
 use Rattle.adf_format.proofs.FieldLaws.{inner_field, length-field}
 use Rattle.adf_format.proofs.PathLaws.{IsWalked, is_walked, child_of}
@@ -59,7 +59,7 @@ split_rows a table entries chunk_table chunks datas count h =
     (left_part a (count ∷ table) h4, h5.0, h5.1, right_part (a ++ (count ∷ table)) entries h3, right_part (a ++ (count ∷ table) ++ entries) chunk_table h2, right_part (a ++ (count ∷ table) ++ entries ++ chunk_table) chunks h1)
 
 pub rows_kept : (image : List ℕ) (wide : Bool) (end : ℕ) (v : Visit) → Passed image wide end v → RowsKept image wide end v
-unfolding visit_rows
+unfolding node_rows_at
 rows_kept image wide end v p =
     let all = all_kept (visit_rows image wide end p.0 v) p.1 in
     let parts = split_rows _ _ _ _ _ _ _ all.1.1.1 in
@@ -255,7 +255,7 @@ module _ (image : List ℕ) (nodes : List Visit) (gaps : List Extent) (head : fi
     -- ---- the table
 
     fewer : children_in image p ≤ entries_in image p
-    unfolding count_row
+    unfolding count_row_at
     fewer = le_of (children_in image p) (entries_in image p) (and_parts _ _ (and_parts _ _ (and_parts _ _ rows.count).0).0).0
 
     entry_place : (i : ℕ) → i < children_in image p → is_place (entry_pointer image (table_in image p) i) ≡ true

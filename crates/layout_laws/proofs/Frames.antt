@@ -6,7 +6,7 @@ use Rattle.adf_format.specs.Pointer.{To, pointer, is_place, place_of}
 use Rattle.adf_format.specs.Fields.{field, holds}
 use Rattle.adf_format.specs.Parts.{IsFramed, SpellsTable, SpellsChunkTable, SpellsChunk, table_length, chunk_table_length}
 use Rattle.adf_format.specs.Checks.{Row, row}
-use Rattle.adf_format.specs.FirstFault.{fits, has_room, table_rows, chunk_table_rows, chunk_rows, ChunkVisit, chunk_length, agrees, count_up}
+use Rattle.adf_format.specs.FirstFault.{fits, has_room, table_rows, chunk_table_rows, chunk_rows, ChunkVisit, chunk_length, agrees, count_up, one_chunk_rows}
 use Rattle.adf_format.proofs.FieldLaws.{inner_field}
 use Rattle.adf_format.proofs.RowLaws.{holds_tells, kept_index}
 use Rattle.adf_model.proofs.Basics.{and_parts}
@@ -154,7 +154,7 @@ one_chunk image end v tail e a b d =
     }
 
 pub chunks_spelled : (image : List ℕ) (end used : ℕ) (vs : List ChunkVisit) → Kept (chunk_rows image end used vs) → Chunk image end vs
-unfolding chunk_rows
+unfolding chunk_rows one_chunk_rows
 chunks_spelled image end used [] h = tt
 chunks_spelled image end used (v ∷ vs) h =
     (one_chunk image end v (place_of (field image (v.place + 4) 12)) refl h.0 h.1.0 h.1.1.0, chunks_spelled image end (used + chunk_length image v.place) vs h.1.1.1.1)
@@ -164,7 +164,7 @@ lengths image [] = 0
 lengths image (v ∷ vs) = chunk_length image v.place + lengths image vs
 
 pub chunks_unbroken : (image : List ℕ) (end used : ℕ) (vs : List ChunkVisit) → used + lengths image vs ≤ end + 1 → Chunk image end vs → Kept (chunk_rows image end used vs)
-unfolding chunk_rows
+unfolding chunk_rows one_chunk_rows
 chunks_unbroken image end used [] room h = tt
 chunks_unbroken image end used (v ∷ vs) room h =
     let s = h.0 in

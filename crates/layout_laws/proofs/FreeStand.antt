@@ -12,7 +12,7 @@ use Rattle.adf_format.specs.Parts.{SpellsFree, HasPointer}
 use Rattle.adf_format.specs.Placement.{Placement, head_extents, live_extents, all_extents}
 use Rattle.adf_format.specs.LaysOut.{LaysOut, IsThreaded, first_place, last_place}
 use Rattle.adf_format.specs.Checks.{Fault, first_broken, Walk, finished, stopped, passed}
-use Rattle.adf_format.specs.FirstFault.{Visit, FreeVisit, FreeWalk, free_rows, next_free, free_extent, first_frees, visits_through, chunk_length, fits, is_pointer_to, last_at, found_extents, extents_found, is_misplaced, HasNoFault, is_wide}
+use Rattle.adf_format.specs.FirstFault.{Visit, FreeVisit, FreeWalk, free_rows, next_free, free_extent, first_frees, visits_through, chunk_length, fits, is_pointer_to, last_at, found_extents, extents_found, is_misplaced, HasNoFault, is_wide, free_rows_at}
 use Rattle.adf_format.proofs.FaultLaws.{free_walk_ends}
 use Rattle.adf_format.proofs.FieldLaws.{inner_field}
 use Rattle.adf_format.proofs.HeapSteps.{cover-append}
@@ -165,7 +165,7 @@ module _ (image : List ℕ) (tree : Tree) (p : Placement) (l : LaysOut image tre
   free_kept : (nodes : ℕ) (seen : List FreeVisit) (done : List Extent) (v : FreeVisit) (f : Extent) (fs : List Extent) → AreFree image seen done → AllByRecursion (λ (x : Extent). 32 ≤ x.length) done → v.place ≡ f.place
       → SpellsFree (field image f.place f.length) f.place f.length (first_place fs) → NamesLast image v.list (f ∷ fs) → 266 ≤ f.place → end_of f ≤ end + 1 → cover done f.place ≡ 0 → 266 + nodes + total_length done + f.length ≤ end + 1
       → (chunk_length image v.place ≡ f.length) × HasPointer image (v.place + 16) (first_place fs) × Kept (free_rows image end nodes seen v)
-  unfolding free_rows
+  unfolding free_rows_at
   free_kept nodes seen done v f fs met longs e s last low high apart room =
       let long = s.long in
       let frame = frame_out image f.place f.length (f.place + f.length - 4) (codes "FreE") (codes "EndC") (omega (arith, long)) refl s.framed in

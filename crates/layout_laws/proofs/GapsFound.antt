@@ -12,7 +12,7 @@ use Rattle.adf_format.specs.Parts.{node_length, table_length, chunk_table_length
 use Rattle.adf_format.specs.Placement.{extent, head_extents}
 use Rattle.adf_format.specs.LaysOut.{IsSound}
 use Rattle.adf_format.specs.Checks.{Fault, first_broken, Walk, finished, stopped, passed}
-use Rattle.adf_format.specs.FirstFault.{Visit, FreeVisit, ChunkVisit, HasNoFault, FirstFault, head_rows, row_of_length, header_rows, end_rows, free_rows, next_free, free_extent, chunk_length, found_extents, extents_found, visit_extents, table_extents_at, chunk_table_extents_at, table_rows, chunk_table_rows, fits, table_in, entries_in, chunk_count, chunk_in, chunks_in, is_wide, end_in}
+use Rattle.adf_format.specs.FirstFault.{Visit, FreeVisit, ChunkVisit, HasNoFault, FirstFault, head_rows, row_of_length, header_rows, end_rows, free_rows, next_free, free_extent, chunk_length, found_extents, extents_found, visit_extents, table_extents_at, chunk_table_extents_at, table_rows, chunk_table_rows, fits, table_in, entries_in, chunk_count, chunk_in, chunks_in, is_wide, end_in, free_rows_at}
 use Rattle.adf_format.specs.SoundPart.{tree_of}
 use Rattle.adf_format.proofs.ClosureLaws.{IsIn}
 use Rattle.adf_format.proofs.FaultLaws.{fault_or_none}
@@ -86,7 +86,7 @@ abbrev FreeEnds : List ℕ → ℕ → FreeVisit → Type 0
 FreeEnds image end v = (32 ≤ chunk_length image v.place) × (v.place + chunk_length image v.place ≤ end + 1)
 
 free_ends : (image : List ℕ) (end nodes : ℕ) (seen : List FreeVisit) (v : FreeVisit) → Kept (free_rows image end nodes seen v) → FreeEnds image end v
-unfolding free_rows
+unfolding free_rows_at
 free_ends image end nodes seen v h =
     let near = and_parts _ _ h.1.0 in
     let place = and_parts _ _ near.0 in

@@ -5,13 +5,8 @@ use Rattle.adf_format.specs.Fields.{field}
 use Rattle.adf_format.specs.Pointer.{is_place, place_of}
 use Rattle.adf_format.specs.Tiles.{total_length}
 use Rattle.adf_format.specs.Checks.{Row, Fault, first_broken, Walk, finished, stopped, passed}
-use Rattle.adf_format.specs.FirstFault.{Visit, FreeVisit, FreeWalk, free_rows, next_free, first_frees, free_extent, visits_through, found_extents, is_wide, end_in}
-use Rattle.layout_laws.specs.ListPass.{named_place, waiting, is_met, free_rows_at, IsAtList}
-
--- the rules of a free chunk read of those before it whether its place is among them, and their bytes
-pub rows_of_free : (image : List ℕ) (end nodes : ℕ) (seen : List FreeVisit) (v : FreeVisit) → free_rows image end nodes seen v ≡ free_rows_at image end (is_met seen v.place) (266 + nodes + total_length (map (free_extent image) seen)) v.list v.place
-unfolding free_rows free_rows_at
-rows_of_free image end nodes seen v = refl
+use Rattle.adf_format.specs.FirstFault.{Visit, FreeVisit, FreeWalk, free_rows, next_free, first_frees, free_extent, visits_through, found_extents, is_wide, end_in, free_rows_at}
+use Rattle.layout_laws.specs.ListPass.{named_place, waiting, is_met, IsAtList}
 
 waits_through : (bytes : List ℕ) (list : ℕ) → visits_through bytes list ≡ waiting list (named_place bytes)
 waits_through bytes list = by_test (is_place bytes)
@@ -40,13 +35,13 @@ module _ (image : List ℕ) (nodes : List Visit) where
   pub meet : (list place : ℕ) (later seen : List FreeVisit) → IsAtList image nodes list (Some place) later seen → first_broken (at_free seen list place) ≡ None
       → IsAtList image nodes list (named_place (field image (place + 16) 12)) later (seen ++ record { place = place; list = list } ∷ [])
   meet list place later seen at kept = record {
-    goes_on = λ outcome w. at.goes_on outcome (passed {outcome = outcome} (ap first_broken (rows_of_free image (end_in image) all_nodes seen (record { place = place; list = list })) ∙ kept)
+    goes_on = λ outcome w. at.goes_on outcome (passed {outcome = outcome} kept
         (subst (λ todo. Walk (free_rows image (end_in image) all_nodes) (next_free image) (todo ++ later) (seen ++ record { place = place; list = list } ∷ []) outcome) (sym (waits_through (field image (place + 16) 12) list)) w));
   }
 
   -- one that breaks a rule ends the walk
   pub break : (list place : ℕ) (later seen : List FreeVisit) (fault : Fault) → IsAtList image nodes list (Some place) later seen → first_broken (at_free seen list place) ≡ Some fault → FreeWalk image nodes (Err fault)
-  break list place later seen fault at broken = at.goes_on (Err fault) (stopped (ap first_broken (rows_of_free image (end_in image) all_nodes seen (record { place = place; list = list })) ∙ broken))
+  break list place later seen fault at broken = at.goes_on (Err fault) (stopped broken)
 
   -- behind the last of a list the next list begins
   pub next_list : (list other : ℕ) (next : Option ℕ) (later seen : List FreeVisit) → IsAtList image nodes list None (waiting other next ++ later) seen → IsAtList image nodes other next later seen

@@ -6,12 +6,12 @@ use Rattle.std.specs.List.{range_with_len, list_any}
 use Rattle.adf_format.specs.Pointer.{place_of}
 use Rattle.adf_format.specs.Tiles.{total_length}
 use Rattle.adf_format.specs.Checks.{Row, Fault, first_broken, Walk, finished, stopped, passed}
-use Rattle.adf_format.specs.FirstFault.{Visit, FreeVisit, NodeWalk, HasNoFault, root_visit, child_visits, visit_rows, count_row, visit_extents, found_extents, entry_name, entry_pointer, children_in, table_in, is_wide, end_in}
+use Rattle.adf_format.specs.FirstFault.{Visit, FreeVisit, NodeWalk, HasNoFault, root_visit, child_visits, visit_rows, visit_extents, found_extents, entry_name, entry_pointer, children_in, table_in, is_wide, end_in, node_rows_at, count_row_at}
 use Rattle.adf_format.specs.Verdict.{NodePlace}
 use Rattle.adf_format.proofs.PathLaws.{child_of}
 use Rattle.adf_model.proofs.Basics.{same_Some, not_there}
 use Rattle.layout_laws.specs.FoundLayout.{ListsVisits, NamesVisit}
-use Rattle.layout_laws.specs.NodePass.{Waiting, IsMet, AreMet, IsUnderway, is_known, met_extents, named_node, node_rows_at, count_row_at, waiting_child, waiting_children}
+use Rattle.layout_laws.specs.NodePass.{Waiting, IsMet, AreMet, IsUnderway, is_known, met_extents, named_node, waiting_child, waiting_children}
 use Rattle.layout_laws.proofs.VisitsListed.{visits_listed}
 
 -- ---- lists
@@ -74,12 +74,6 @@ known_extents image wide seen (v ∷ vs) (m ∷ ms) h =
     ap (λ xs. xs ++ found_extents image wide vs) (extents_at image wide v ∙ ap (λ n. visit_extents image wide (record { place = n; entry = None; path = [] })) (sym h.0.place))
     ∙ ap (λ xs. visit_extents image wide (record { place = m.place; entry = None; path = [] }) ++ xs) (known_extents image wide seen vs ms h.1)
 
--- the rules of a node read of those before it whether its place is among them, and their bytes
-pub rows_of_node : (image : List ℕ) (wide : Bool) (end : ℕ) (seen : List Visit) (v : Visit)
-    → visit_rows image wide end seen v ≡ node_rows_at image wide end (list_any (λ (w : Visit). w.place == v.place) seen) (266 + total_length (found_extents image wide seen)) v.place v.entry (length v.path)
-unfolding visit_rows count_row node_rows_at count_row_at
-rows_of_node image wide end seen v = refl
-
 module _ (image : List ℕ) where
   abbrev pub wide : Bool
   wide = is_wide image
@@ -89,8 +83,7 @@ module _ (image : List ℕ) where
 
   same_rows : (seen : List Visit) (nodes : List Waiting) (m : Waiting) (v : Visit) → AreMet seen nodes seen → IsMet seen m v → visit_rows image (is_wide image) (end_in image) seen v ≡ rows nodes m
   same_rows seen nodes m v found met =
-      rows_of_node image (is_wide image) (end_in image) seen v
-      ∙ ap (λ b. node_rows_at image (is_wide image) (end_in image) b (266 + total_length (found_extents image (is_wide image) seen)) v.place v.entry (length v.path)) (known_places seen seen nodes v.place found)
+      ap (λ b. node_rows_at image (is_wide image) (end_in image) b (266 + total_length (found_extents image (is_wide image) seen)) v.place v.entry (length v.path)) (known_places seen seen nodes v.place found)
       ∙ ap (λ xs. node_rows_at image (is_wide image) (end_in image) (is_known nodes v.place) (266 + total_length xs) v.place v.entry (length v.path)) (known_extents image (is_wide image) seen seen nodes found)
       ∙ ap (λ n. node_rows_at image (is_wide image) (end_in image) (is_known nodes n) (266 + total_length (met_extents image (is_wide image) nodes)) n v.entry (length v.path)) (sym met.place)
       ∙ ap (λ o. node_rows_at image (is_wide image) (end_in image) (is_known nodes m.place) (266 + total_length (met_extents image (is_wide image) nodes)) m.place o (length v.path)) (sym met.entry)

@@ -20,7 +20,7 @@ use Rattle.adf_format.specs.Parts.{SpellsChunk, node_length, table_length, chunk
 use Rattle.adf_format.specs.Placement.{Placement, NodeParts, TablePart, ChunkPart, extent, table_extents, chunk_table_extents, chunk_extents, node_extents}
 use Rattle.adf_format.specs.LaysOut.{HoldsNode, HasTable, HasChunkTable, HasData, fields_of, entry_count, chunk_pointer, payloads}
 use Rattle.adf_format.specs.Checks.{Row}
-use Rattle.adf_format.specs.FirstFault.{ChunkVisit, fits, node_rows, count_row, table_rows, chunk_table_rows, chunk_rows, data_rows, rows_unless, is_same_name, children_in, entries_in, table_in, chunk_count, chunk_in, chunks_in, chunk_visits, chunk_length, dims_in, type_or_mt, payloads_in, payload_total, agrees}
+use Rattle.adf_format.specs.FirstFault.{ChunkVisit, fits, node_rows, count_row, table_rows, chunk_table_rows, chunk_rows, data_rows, rows_unless, is_same_name, children_in, entries_in, table_in, chunk_count, chunk_in, chunks_in, chunk_visits, chunk_length, dims_in, type_or_mt, payloads_in, payload_total, agrees, count_row_at}
 use Rattle.adf_format.proofs.ClosureLaws.{IsIn, in_left, in_right}
 use Rattle.adf_model.proofs.Basics.{and_parts, not_true, same_Some, not_there}
 use Rattle.adf_model.proofs.Walks.WalkNodes.{Kept, payloads_long}
@@ -174,7 +174,7 @@ module _ (image : List ℕ) (tree : Tree) (p : Placement) (node : Node) (parts :
   children_within (Some t) k = k.1
 
   pub count_kept : (entry : Option (List ℕ)) (path : List ℕ) → length node.children ≤ 2 ^ 20 → (0 < length node.children → length path < 255) → (count_row image (record { place = place; entry = entry; path = path })).kept ≡ true
-  unfolding count_row
+  unfolding count_row_at
   count_kept entry path few deep =
       let n = children_held image tree p node parts h in
       let m = entries_held image tree p node parts h in

@@ -16,7 +16,7 @@ use Rattle.adf_format.specs.Parts.{node_length, table_length}
 use Rattle.adf_format.specs.Placement.{Placement, NodeParts, TablePart, extent, parts_of, extents_of, node_extents, live_extents, head_extents, all_extents, table_extents, chunk_table_extents, chunk_extents}
 use Rattle.adf_format.specs.LaysOut.{LaysOut, HoldsNode, HasTable}
 use Rattle.adf_format.specs.Checks.{Row, Fault, first_broken, Walk, finished, stopped, passed}
-use Rattle.adf_format.specs.FirstFault.{Visit, NodeWalk, root_visit, child_visits, visit_rows, visit_extents, found_extents, entry_rows, entry_name, entry_pointer, children_in, entries_in, table_in, chunk_count, is_name_field, end_in, count_up, table_extents_at, chunk_table_extents_at, chunk_in}
+use Rattle.adf_format.specs.FirstFault.{Visit, NodeWalk, root_visit, child_visits, visit_rows, visit_extents, found_extents, entry_rows, entry_name, entry_pointer, children_in, entries_in, table_in, chunk_count, is_name_field, end_in, count_up, table_extents_at, chunk_table_extents_at, chunk_in, node_rows_at}
 use Rattle.adf_format.proofs.ClosureLaws.{IsIn}
 use Rattle.adf_format.proofs.CountLaws.{tiles_add_up}
 use Rattle.adf_format.proofs.FieldLaws.{inner_field}
@@ -366,7 +366,7 @@ module _ (image : List ℕ) (tree : Tree) (p : Placement) (l : LaysOut image tre
   rows_kept : (seen : List Visit) (ss : List ℕ) (s : ℕ) (rest : List ℕ) (node : Node) (parts : NodeParts) (entry : Option (List ℕ)) (path : List ℕ) → AreStanding seen ss → ss ++ s ∷ rest ≡ tree_order tree → (at : node_at tree s ≡ Some node) → (has : parts_of p s ≡ Some parts)
       → (entry ≡ None) ⊎ (entry ≡ Some (text_field 32 node.name)) → length path + 1 ≡ length (lineage tree s) → list_any (λ (w : Visit). w.place == parts.header) seen ≡ false
       → Kept (visit_rows image wide end seen (record { place = parts.header; entry = entry; path = path }))
-  unfolding visit_rows
+  unfolding node_rows_at
   rows_kept seen ss s rest node parts entry path h e at has named deep fresh =
       let hold = here s node parts at has in
       let is = l.is_tree.each s node at in

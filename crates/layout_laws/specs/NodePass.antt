@@ -1,15 +1,11 @@
 -- The walk over the nodes, step by step, with a stack of those that wait.
-use Rattle.std.specs.Prelude.{◌≡◌, ◌⊎◌, ℕ, ◌+◌, ◌^◌, nat_le, nat_lt, Bool, not, ◌&&◌, ◌||◌, ◌==◌, List, [], ◌∷◌, ◌++◌, length, map, reverse, slice_get, Option, Some, None, Result, ⊤}
+use Rattle.std.specs.Prelude.{◌≡◌, ◌⊎◌, ℕ, ◌+◌, Bool, ◌==◌, List, [], ◌∷◌, ◌++◌, length, map, reverse, slice_get, Option, Some, None, Result, ⊤}
 use Rattle.std.specs.List.{list_any, flat_map}
 use Rattle.adf_format.specs.declared.types.Extent.{Extent}
 use Rattle.adf_format.specs.Verdict.{NodePlace}
-use Rattle.adf_format.specs.Fields.{field}
-use Rattle.adf_format.specs.Names.{is_lk}
-use Rattle.adf_format.specs.Parts.{node_length}
 use Rattle.adf_format.specs.Pointer.{place_of}
-use Rattle.adf_format.specs.Tiles.{total_length}
-use Rattle.adf_format.specs.Checks.{Row, row, Fault, Walk}
-use Rattle.adf_format.specs.FirstFault.{Visit, NodeWalk, child_visits, visit_rows, visit_extents, fits, has_room, node_rows, is_same_name, type_or_mt, children_in, entries_in, table_in, table_extents_at, chunk_table_extents_at, table_rows, entry_rows, chunk_table_rows, chunk_rows, data_rows, rows_unless, chunk_count, chunk_in, chunks_in, entry_name, entry_pointer, count_up, is_wide, end_in}
+use Rattle.adf_format.specs.Checks.{Fault, Walk}
+use Rattle.adf_format.specs.FirstFault.{Visit, NodeWalk, child_visits, visit_rows, visit_extents, entry_name, entry_pointer, count_up, is_wide, end_in}
 
 -- A node that waits: its place, the name field of its entry, its parent's number, its position there, and its depth.
 pub record Waiting : Type 0 where
@@ -30,27 +26,6 @@ met_extents image wide nodes = flat_map (λ (m : Waiting). visit_extents image w
 -- the place of a node, as a verdict names it
 abbrev pub named_node : Waiting → NodePlace
 named_node m = record { place = m.place; parent = m.parent; position = m.position; depth = m.depth }
-
-unfoldable pub count_row_at : List ℕ → ℕ → ℕ → Row
-count_row_at image place depth =
-    let children = children_in image place in
-    row 22 (place + 68)
-    (nat_le children (entries_in image place) && nat_le children (2 ^ 20)
-    && (nat_lt depth 255 || (children == 0)) && (not (is_lk (type_or_mt (field image (place + 96) 32))) || (children == 0)))
-
--- all rules of a node, where it is known whether its place was met before and how many bytes were found
-unfoldable pub node_rows_at : List ℕ → Bool → ℕ → Bool → ℕ → ℕ → Option (List ℕ) → ℕ → List Row
-node_rows_at image wide end known used p entry depth =
-    let h = node_length wide in
-    let behind_table = used + h + total_length (table_extents_at image p) in
-    let behind_chunk_table = behind_table + total_length (chunk_table_extents_at image wide p) in
-    row 12 p (fits end p h) ∷ row 13 p (not known) ∷ row 14 p (has_room end used h)
-    ∷ node_rows wide p (is_same_name entry (field image (p + 4) 32)) (field image p h)
-    ++ count_row_at image p depth ∷ rows_unless (entries_in image p == 0) (table_rows image end (used + h) (table_in image p) (entries_in image p))
-    ++ entry_rows image (table_in image p) (children_in image p)
-    ++ rows_unless (nat_lt (chunk_count image wide p) 2) (chunk_table_rows image end behind_table (chunk_in image wide p) (chunk_count image wide p))
-    ++ chunk_rows image end behind_chunk_table (chunks_in image wide p)
-    ++ data_rows image wide p
 
 -- a node that waits is this visit, and its parent is among those seen
 pub record IsMet (seen : List Visit) (m : Waiting) (v : Visit) : Type 0 where

@@ -6,12 +6,12 @@ ghost use Rattle.adf_format.specs.Fields.{field, holds};
 ghost use Rattle.adf_format.specs.Tiles.{cover, end_of, is_free, is_filler, total_length};
 ghost use Rattle.adf_format.specs.LaysOut.{HasSameRanges};
 ghost use Rattle.adf_format.specs.Checks.{Fault, first_broken};
-ghost use Rattle.adf_format.specs.FirstFault.{Visit, FreeVisit, NodeWalk, FreeWalk, HasNoFault, IsLeastMisplaced, is_misplaced, extents_found, found_extents, free_extent, root_visit, children_in, table_in, end_in, is_wide};
+ghost use Rattle.adf_format.specs.FirstFault.{Visit, FreeVisit, NodeWalk, FreeWalk, HasNoFault, IsLeastMisplaced, is_misplaced, extents_found, found_extents, free_extent, root_visit, children_in, table_in, end_in, is_wide, node_rows_at, free_rows_at};
 ghost use Rattle.adf_format.specs.declared.types.Extent.{Extent};
 ghost use Rattle.layout_laws.specs.FoundLayout.{FillGaps, ListsVisits};
 ghost use Rattle.layout_laws.specs.TilePass.{IsPassed, AllFrom, AreBlank, filled_up, passed_gaps};
-ghost use Rattle.layout_laws.specs.ListPass.{IsAtList, named_place, waiting, is_met, free_rows_at};
-ghost use Rattle.layout_laws.specs.NodePass.{Waiting, IsUnderway, AreMet, is_known, met_extents, named_node, node_rows_at, waiting_children};
+ghost use Rattle.layout_laws.specs.ListPass.{IsAtList, named_place, waiting, is_met};
+ghost use Rattle.layout_laws.specs.NodePass.{Waiting, IsUnderway, AreMet, is_known, met_extents, named_node, waiting_children};
 
 /// A stack of nodes, the next one last, leads through the walk over the nodes: the root waits at first, a node
 /// that breaks no rule is met and its children wait in its place, and the first broken rule ends it. The nodes

@@ -6,12 +6,12 @@ use Rattle.adf_format.specs.Pointer.{is_place, place_of}
 use Rattle.adf_format.specs.Fields.{field, holds}
 use Rattle.adf_format.specs.Parts.{chunk_table_length}
 use Rattle.adf_format.specs.Checks.{Row, row, first_broken}
-use Rattle.adf_format.specs.FirstFault.{ChunkVisit, fits, has_room, is_pointer_to, chunk_table_rows, chunk_length, count_up}
+use Rattle.adf_format.specs.FirstFault.{ChunkVisit, fits, has_room, is_pointer_to, chunk_table_rows, chunk_length, count_up, one_chunk_rows}
 use Rattle.adf_format.proofs.FieldLaws.{inner_field}
 use Rattle.layout_lint.specs.declared.verdict.Halt.{Halt}
 use Rattle.layout_lint.specs.declared.verdict.Halt.TheVariants as halt
 use Rattle.layout_lint.specs.Halts.{Breaks}
-use Rattle.layout_lint.specs.Chunks.{chunk_said, listed_chunk, chunk_entry_row, has_tail, tail_said, one_chunk_rows}
+use Rattle.layout_lint.specs.Chunks.{chunk_said, listed_chunk, chunk_entry_row, has_tail, tail_said}
 use Rattle.layout_lint.proofs.RowSteps.{breaks_first, breaks_then, breaks_2, breaks_3, breaks_4, kept_2, row_kept, row_breaks}
 
 -- what is read of an entry

@@ -9,14 +9,14 @@ use Rattle.std.specs.List.{range_with_len}
 use Rattle.adf_format.specs.declared.types.Extent.{Extent}
 use Rattle.adf_format.specs.Tiles.{total_length}
 use Rattle.adf_format.specs.Checks.{Row, Fault, first_broken}
-use Rattle.adf_format.specs.FirstFault.{ChunkVisit, chunk_rows, chunk_length, payload_total, count_up}
+use Rattle.adf_format.specs.FirstFault.{ChunkVisit, chunk_rows, chunk_length, payload_total, count_up, one_chunk_rows}
 use Rattle.layout_lint.specs.declared.chunks.Listed.{Listed}
 use Rattle.layout_lint.specs.declared.verdict.Halt.{Halt}
 use Rattle.layout_lint.specs.declared.verdict.Halt.TheVariants as halt
 use Rattle.adf_format.specs.declared.types.ExtentKind.{ExtentKind}
 use Rattle.adf_format.specs.Placement.{extent}
 use Rattle.layout_lint.specs.Halts.{Breaks}
-use Rattle.layout_lint.specs.Chunks.{visit_of, entry_visit, listed_chunks, AreListed, listed_chunk, chunk_visit, data_extent, one_chunk_rows, AddsChunks, IsChunk}
+use Rattle.layout_lint.specs.Chunks.{visit_of, entry_visit, listed_chunks, AreListed, listed_chunk, chunk_visit, data_extent, AddsChunks, IsChunk}
 use Rattle.layout_lint.proofs.RowSteps.{kept_then, breaks_first}
 
 -- the numbers from i on, where there are some
@@ -35,7 +35,7 @@ unfolding chunk_rows one_chunk_rows
 chunk_first image end used v vs = refl
 
 pub no_chunks : (image : List ℕ) (end used : ℕ) → first_broken (chunk_rows image end used []) ≡ None
-unfolding chunk_rows
+unfolding chunk_rows one_chunk_rows
 no_chunks image end used = refl
 
 module _ (image : List ℕ) (end : ℕ) (f : ℕ → ChunkVisit) (i n : ℕ) (lt : i < n) where

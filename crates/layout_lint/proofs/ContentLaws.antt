@@ -15,7 +15,7 @@ use Rattle.adf_format.specs.Fields.{field}
 use Rattle.adf_format.proofs.FieldLaws.{length-field}
 use Rattle.adf_format.specs.declared.types.Extent.{Extent}
 use Rattle.adf_format.specs.FirstFault.{ChunkVisit, payload_total, payloads_in}
-use Rattle.layout_lint.specs.Told.{Told}
+use Rattle.cg_io.specs.Answers.{Told}
 use Rattle.layout_lint.specs.Chunks.{data_extent, IsChunk}
 use Rattle.layout_lint.proofs.PageLaws.{field_read}
 

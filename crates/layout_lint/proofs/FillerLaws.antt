@@ -11,7 +11,7 @@ use Rattle.adf_model.proofs.Basics.{false_of}
 use Rattle.cg_io.specs.Device.{bytes_at, Gives}
 use Rattle.cg_io.proofs.Places.{get_or-bytes_at}
 use Rattle.layout_laws.specs.TilePass.{AreBlank}
-use Rattle.layout_lint.specs.Told.{Told}
+use Rattle.cg_io.specs.Answers.{Told}
 use Rattle.layout_lint.specs.Fillers.{IsHole}
 use Rattle.layout_lint.specs.declared.verdict.Halt.{Halt}
 use Rattle.layout_lint.specs.declared.verdict.Halt.TheVariants as halt

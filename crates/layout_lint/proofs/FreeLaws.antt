@@ -4,12 +4,12 @@ use Rattle.std.specs.Prelude.{Option, Some, None, ◌&&◌, ◌||◌, ◌==◌, 
 use Rattle.adf_format.specs.Pointer.{pointer, is_pointer, is_pointer_value, is_place, is_place_value, place_of, place_value}
 use Rattle.adf_format.specs.Fields.{field, holds}
 use Rattle.adf_format.specs.Checks.{Row, row, first_broken}
-use Rattle.adf_format.specs.FirstFault.{fits, has_room, is_pointer_to, chunk_length, last_at}
+use Rattle.adf_format.specs.FirstFault.{fits, has_room, is_pointer_to, chunk_length, last_at, free_rows_at}
 use Rattle.adf_format.proofs.FieldLaws.{inner_field}
 use Rattle.disk_ptr.specs.declared.DiskPtr.{DiskPtr}
 use Rattle.disk_ptr.specs.declared.DiskPtr.TheVariants.{At}
 use Rattle.disk_ptr.specs.View as view
-use Rattle.layout_laws.specs.ListPass.{free_rows_at, named_place}
+use Rattle.layout_laws.specs.ListPass.{named_place}
 use Rattle.layout_lint.specs.declared.lists.FreeList.{FreeList}
 use Rattle.layout_lint.specs.declared.verdict.Halt.{Halt}
 use Rattle.layout_lint.specs.declared.verdict.Halt.TheVariants as halt

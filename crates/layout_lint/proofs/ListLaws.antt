@@ -8,9 +8,9 @@ use Rattle.adf_format.specs.Fields.{field}
 use Rattle.adf_format.specs.declared.types.Extent.{Extent}
 use Rattle.adf_format.specs.Tiles.{total_length}
 use Rattle.adf_format.specs.Checks.{first_broken}
-use Rattle.adf_format.specs.FirstFault.{Visit, FreeVisit, chunk_length, free_extent, found_extents, is_wide, end_in}
+use Rattle.adf_format.specs.FirstFault.{Visit, FreeVisit, chunk_length, free_extent, found_extents, is_wide, end_in, free_rows_at}
 use Rattle.adf_format.proofs.WalkLaws.{total_length-append}
-use Rattle.layout_laws.specs.ListPass.{IsAtList, free_rows_at, is_met, named_place}
+use Rattle.layout_laws.specs.ListPass.{IsAtList, is_met, named_place}
 use Rattle.layout_laws.proofs.ListPassLaws as passes
 use Rattle.layout_lint.specs.declared.lists.Frees.{Frees}
 use Rattle.layout_lint.specs.declared.verdict.Halt.{Halt}

@@ -14,13 +14,12 @@ use Rattle.adf_format.specs.declared.types.DataType.{DataType}
 use Rattle.adf_format.specs.declared.types.Extent.{Extent}
 use Rattle.adf_format.specs.declared.types.ExtentKind.{ExtentKind}
 use Rattle.adf_format.specs.Checks.{Row, Fault, first_broken}
-use Rattle.adf_format.specs.FirstFault.{type_or_mt, is_same_name, children_in, entries_in, table_in, table_extents_at, chunk_table_extents_at, visit_extents}
+use Rattle.adf_format.specs.FirstFault.{type_or_mt, is_same_name, children_in, entries_in, table_in, table_extents_at, chunk_table_extents_at, visit_extents, node_rows_at, count_row_at}
 use Rattle.adf_format.proofs.CheckLaws.{first_broken-append}
 use Rattle.adf_format.proofs.FieldLaws.{inner_field}
 use Rattle.adf_format.proofs.WalkLaws.{total_length-append}
 use Rattle.adf_records.specs.declared.NodeHeader.{NodeHeader}
 use Rattle.adf_records.specs.View.{record_of}
-use Rattle.layout_laws.specs.NodePass.{node_rows_at, count_row_at}
 use Rattle.layout_lint.specs.declared.node.Met.{Met}
 use Rattle.layout_lint.specs.declared.look.Next.{Next}
 use Rattle.layout_lint.specs.declared.verdict.Halt.{Halt}

@@ -14,7 +14,7 @@ use Rattle.adf_format.specs.Tree.{Tree, Node, next_serial, node_at, tree_order, 
 use Rattle.adf_format.specs.Placement.{Placement, extent, NodeParts, TablePart, ChunkPart, parts_of, node_extents, table_extents, chunk_table_extents, chunk_extents}
 use Rattle.adf_format.specs.LaysOut.{LaysOut, HoldsNode}
 use Rattle.adf_format.specs.Checks.{first_broken}
-use Rattle.adf_format.specs.FirstFault.{Visit, found_extents, is_wide, end_in}
+use Rattle.adf_format.specs.FirstFault.{Visit, found_extents, is_wide, end_in, node_rows_at}
 use Rattle.adf_format.specs.Verdict.{NodePlace, ListsNodes}
 use Rattle.adf_format.proofs.ClosureLaws.{IsIn}
 use Rattle.adf_format.proofs.LayoutLaws.{live_parts}
@@ -23,9 +23,7 @@ use Rattle.adf_model.proofs.Basics.{same_Some, not_there}
 use Rattle.adf_model.proofs.Trees.Renumbered.{among_get, live_listed, at_pos, node_new, pos}
 use Rattle.adf_model.proofs.Walks.WalkRows.{Passed, walk_passes}
 use Rattle.layout_laws.specs.FoundLayout.{parts_at}
-use Rattle.layout_laws.specs.NodePass.{node_rows_at}
 use Rattle.layout_laws.proofs.HeldParts.{parts_held}
-use Rattle.layout_laws.proofs.NodePassLaws.{rows_of_node}
 use Rattle.layout_laws.proofs.NodesStand.{Stands, AreStanding, nodes_stand, something}
 use Rattle.layout_laws.proofs.VisitExtents.{visit_parts}
 use Rattle.layout_lint.specs.Nodes.{extents_at}
@@ -70,7 +68,7 @@ module _ (image : List ℕ) (tree : Tree) (p : Placement) (l : LaysOut image tre
   met_keeps : (v : Visit) → Passed image (is_wide image) (end_in image) v → Keeps image (is_wide image) (end_in image) v.place
   met_keeps v passed used room =
       alone_kept image (is_wide image) (end_in image) (list_any (λ (w : Visit). w.place == v.place) passed.0) (266 + total_length (found_extents image (is_wide image) passed.0)) v.place v.entry (length v.path) used
-      (ap first_broken (sym (rows_of_node image (is_wide image) (end_in image) passed.0 v)) ∙ passed.1) room
+      passed.1 room
 
   visit_at : (vs : List Visit) (ss : List ℕ) (k s : ℕ) → AreStanding image tree p l vs ss → slice_get ss k ≡ Some s → (v : Visit) × IsIn v vs × Stands image tree p l v s
   visit_at [] [] k s h e = absurd (not_there s e)

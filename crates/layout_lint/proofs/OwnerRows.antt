@@ -10,11 +10,10 @@ use Rattle.adf_format.specs.Names.{is_lk, is_label}
 use Rattle.adf_format.specs.Pointer.{is_place}
 use Rattle.adf_format.specs.RecordFields.{node_fields}
 use Rattle.adf_format.specs.Checks.{Row, row, first_broken}
-use Rattle.adf_format.specs.FirstFault.{ChunkVisit, tag_rows, count_up, has_room, is_name_field, type_or_mt, children_in, node_rows, text_rows, table_rows, chunk_table_rows, chunk_rows, rows_unless, visit_extents, table_extents_at, chunk_table_extents_at, entries_in, table_in, chunk_count, chunk_in, chunks_in, chunk_length}
+use Rattle.adf_format.specs.FirstFault.{ChunkVisit, tag_rows, count_up, has_room, is_name_field, type_or_mt, children_in, node_rows, text_rows, table_rows, chunk_table_rows, chunk_rows, rows_unless, visit_extents, table_extents_at, chunk_table_extents_at, entries_in, table_in, chunk_count, chunk_in, chunks_in, chunk_length, node_rows_at, count_row_at, one_chunk_rows}
 use Rattle.adf_format.proofs.WalkLaws.{all_kept, total_length-append}
 use Rattle.adf_model.proofs.Basics.{and_parts}
 use Rattle.adf_model.proofs.Walks.WalkNodes.{Kept}
-use Rattle.layout_laws.specs.NodePass.{node_rows_at, count_row_at}
 use Rattle.layout_laws.proofs.Frames.{lengths}
 use Rattle.layout_laws.proofs.Rows.{kept_none, kept-append, both, room_of}
 use Rattle.layout_lint.specs.Nodes.{extents_at}
@@ -70,7 +69,7 @@ chunk_table_alone image end before used c n room h =
     )
 
 chunks_alone : (image : List ℕ) (end before used : ℕ) (vs : List ChunkVisit) → used + lengths image vs ≤ end + 1 → Kept (chunk_rows image end before vs) → Kept (chunk_rows image end used vs)
-unfolding chunk_rows
+unfolding chunk_rows one_chunk_rows
 chunks_alone image end before used [] room h = tt
 chunks_alone image end before used (v ∷ vs) room h =
     (h.0, (h.1.0, (h.1.1.0, (room_of end used (chunk_length image v.place) (omega (arith, room)), chunks_alone image end (before + chunk_length image v.place) (used + chunk_length image v.place) vs (omega (arith, room)) h.1.1.1.1))))

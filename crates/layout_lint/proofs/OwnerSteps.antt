@@ -8,7 +8,7 @@ use Rattle.adf_format.specs.declared.types.Extent.{Extent}
 use Rattle.adf_format.specs.Fields.{field}
 use Rattle.adf_format.specs.Checks.{Fault, first_broken}
 use Rattle.adf_format.specs.Tiles.{total_length}
-use Rattle.layout_laws.specs.NodePass.{node_rows_at}
+use Rattle.adf_format.specs.FirstFault.{node_rows_at}
 use Rattle.layout_lint.specs.declared.look.Next.{Next}
 use Rattle.layout_lint.specs.declared.node.Met.{Met}
 use Rattle.layout_lint.specs.declared.owners.Owned.{Owned}

@@ -11,9 +11,9 @@ use Rattle.std.proofs.lemmas.List.Folds.{list_any-append}
 use Rattle.adf_format.specs.Tiles.{total_length}
 use Rattle.adf_format.specs.Checks.{first_broken}
 use Rattle.adf_format.specs.Placement.{head_extents}
-use Rattle.adf_format.specs.FirstFault.{root_visit, is_wide, end_in, table_in, children_in}
+use Rattle.adf_format.specs.FirstFault.{root_visit, is_wide, end_in, table_in, children_in, node_rows_at}
 use Rattle.adf_format.proofs.WalkLaws.{total_length-append}
-use Rattle.layout_laws.specs.NodePass.{Waiting, IsUnderway, is_known, met_extents, named_node, node_rows_at, waiting_children}
+use Rattle.layout_laws.specs.NodePass.{Waiting, IsUnderway, is_known, met_extents, named_node, waiting_children}
 use Rattle.layout_laws.proofs.NodePassLaws as passes
 use Rattle.layout_lint.specs.declared.node.Met.{Met}
 use Rattle.layout_lint.specs.declared.look.Next.{Next}

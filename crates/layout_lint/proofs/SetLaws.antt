@@ -14,7 +14,7 @@ use Rattle.layout_laws.proofs.Ranges.{same_cover}
 use Rattle.layout_laws.proofs.TilePassLaws as tiles
 use Rattle.layout_lint.specs.Gaps.{AreTiled}
 use Rattle.layout_lint.specs.Shapes.{is_used, AreSet}
-use Rattle.layout_lint.specs.Told.{Told}
+use Rattle.cg_io.specs.Answers.{Told}
 use Rattle.layout_lint.proofs.TilingLaws.{IsAt}
 
 -- ---- bytes that are blank: a pass over them has no hole

@@ -13,7 +13,7 @@ use Rattle.layout_laws.specs.TilePass.{AllFrom, AreBlank, IsPassed, filled_up, p
 use Rattle.layout_laws.proofs.TilePassLaws.{start, pass_on, clash, hole}
 use Rattle.layout_lint.specs.Fillers.{IsHole}
 use Rattle.layout_lint.specs.Gaps.{IsSolid, StopsAt, IsMisplaced, AreTiled}
-use Rattle.layout_lint.specs.Told.{Told}
+use Rattle.cg_io.specs.Answers.{Told}
 use Rattle.layout_lint.specs.declared.verdict.Halt.{Halt}
 use Rattle.layout_lint.specs.declared.verdict.Halt.TheVariants as halt
 use Rattle.layout_lint.proofs.GapLaws.{cover_same, frees_same, sorted_from}

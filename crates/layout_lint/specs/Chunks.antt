@@ -1,14 +1,14 @@
 -- Chunks of data, one by one.
-use Rattle.std.specs.Prelude.{◌≡◌, ◌≤◌, ◌<◌, ◌^◌, ◌++◌, map, length, ℕ, ◌+◌, ◌*◌, Bool, cond, ◌&&◌, nat_le, nat_lt, List, [], ◌∷◌, Option, Some, None, codes}
+use Rattle.std.specs.Prelude.{◌≡◌, ◌≤◌, ◌<◌, ◌^◌, ◌++◌, map, length, ℕ, ◌+◌, ◌*◌, Bool, cond, ◌&&◌, nat_le, nat_lt, List, [], ◌∷◌, Option, Some, None}
 use Rattle.adf_format.specs.Pointer.{is_place, place_of}
-use Rattle.adf_format.specs.Fields.{field, holds}
+use Rattle.adf_format.specs.Fields.{field}
 use Rattle.std.specs.List.{All}
 use Rattle.adf_format.specs.declared.types.Extent.{Extent}
 use Rattle.adf_format.specs.declared.types.ExtentKind.{ExtentKind}
 use Rattle.adf_format.specs.Parts.{chunk_table_length}
 use Rattle.adf_format.specs.Placement.{extent}
 use Rattle.adf_format.specs.Checks.{Row, row}
-use Rattle.adf_format.specs.FirstFault.{ChunkVisit, fits, has_room, agrees, chunk_length, count_up}
+use Rattle.adf_format.specs.FirstFault.{ChunkVisit, agrees, chunk_length, count_up}
 use Rattle.layout_lint.specs.declared.chunks.Chunk.{Chunk}
 use Rattle.layout_lint.specs.declared.chunks.Listed.{Listed}
 
@@ -63,16 +63,6 @@ has_tail image end v =
 abbrev pub tail_said : ℕ → ChunkVisit → List ℕ → Option ℕ
 tail_said end v bytes =
     cond (is_place bytes && nat_le (v.place + 21) (place_of bytes + 4) && nat_le (place_of bytes + 4) (end + 1) && agrees v.listed (place_of bytes)) (Some (place_of bytes)) None
-
--- the rules of one chunk
-unfoldable pub one_chunk_rows : List ℕ → ℕ → ℕ → ChunkVisit → List Row
-one_chunk_rows image end used v =
-    let c = v.place in
-    let tail = place_of (field image (c + 4) 12) in
-    row 26 c (fits end c 21 && holds image c (codes "DaTa"))
-    ∷ row 26 (c + 4) (has_tail image end v)
-    ∷ row 26 tail (holds image tail (codes "dEnD"))
-    ∷ row 14 c (has_room end used (chunk_length image c)) ∷ []
 
 -- the chunks of a node in their order, by what the code knows of them
 abbrev pub chunk_list : List ℕ → ℕ → ℕ → List ChunkVisit

@@ -1,5 +1,4 @@
 pub mod Keys
-pub mod Told
 pub mod Halts
 pub mod Heads
 pub mod Marks

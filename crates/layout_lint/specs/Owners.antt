@@ -14,7 +14,7 @@ use Rattle.adf_format.specs.Fields.{field, trimmed}
 use Rattle.adf_format.specs.LaysOut.{LaysOut}
 use Rattle.adf_format.specs.Verdict.{ListsExtents}
 use Rattle.layout_lint.specs.declared.verdict.NodePlace as code
-use Rattle.layout_laws.specs.NodePass.{node_rows_at}
+use Rattle.adf_format.specs.FirstFault.{node_rows_at}
 use Rattle.layout_lint.specs.Nodes.{extents_at}
 use Rattle.layout_lint.specs.declared.owners.Owned.{Owned}
 use Rattle.layout_lint.specs.declared.verdict.Halt.{Halt}

@@ -5,19 +5,22 @@ ghost use Rattle.std.specs.List.{All};
 ghost use Rattle.cg_io.specs.Blocks.{ReadsFew};
 ghost use Rattle.adf_format.specs.Parts.{chunk_table_length};
 ghost use Rattle.adf_format.specs.Fields.{field};
-ghost use Rattle.adf_format.specs.FirstFault.{chunk_table_rows, chunk_rows, chunk_length, payload_total, count_up, agrees, rows_unless};
+ghost use Rattle.adf_format.specs.FirstFault.{chunk_table_rows, chunk_rows, chunk_length, payload_total, count_up, agrees, rows_unless, one_chunk_rows};
 ghost use Rattle.adf_format.specs.Tiles.{total_length};
-ghost use Rattle.layout_lint.specs.Told.{Told, IsReady};
+ghost use Rattle.cg_io.specs.Answers.{Told};
+ghost use Rattle.cg_io.specs.Pages.{IsReady};
 ghost use Rattle.layout_lint.specs.Halts.{Finds, HasCount, MayLackMemory, IsWant};
-ghost use Rattle.layout_lint.specs.Chunks.{visit_of, entry_visit, listed_chunks, AreListed, IsList, IsNear, chunk_said, chunk_entry_row, listed_chunk, chunk_visit, one_chunk_rows, tail_said, chunk_list, data_extent, list_extents, AddsChunks};
+ghost use Rattle.layout_lint.specs.Chunks.{visit_of, entry_visit, listed_chunks, AreListed, IsList, IsNear, chunk_said, chunk_entry_row, listed_chunk, chunk_visit, tail_said, chunk_list, data_extent, list_extents, AddsChunks};
 
 use crate::marks::{Mark, look_at_start, look_at_tail, place_in};
-use crate::pages::{Page, field_at};
+use crate::pages::field_at;
 use crate::verdict::{Halt, Span, halt_at};
 use adf_chunks::Part;
-use adf_format::fields::{CHUNK_END, CHUNK_START, HEAD_POINTER};
+use adf_format::fields::{
+    CHUNK_END, CHUNK_ENTRY_LENGTH, CHUNK_START, HEAD_LENGTH, HEAD_POINTER, TAG_LENGTH,
+};
 use adf_format::{Extent, ExtentKind};
-use cg_io::Blocks;
+use cg_io::{Blocks, Page};
 use disk_ptr::fields::points_to;
 use std::alloc::Global;
 
@@ -40,7 +43,7 @@ impl Chunks {
     pub fn table_length(self) -> u64
         ensures { result ≡ chunk_table_length self.count }
     {
-        20 + 24 * u64::from(self.count)
+        (HEAD_LENGTH + TAG_LENGTH) as u64 + CHUNK_ENTRY_LENGTH as u64 * u64::from(self.count)
     }
 
     /// Where the end tag of the table stands.
@@ -48,7 +51,7 @@ impl Chunks {
         requires { self.place < 2 ^ 44 }
         ensures { result ≡ self.place + 16 + 24 * self.count }
     {
-        self.place + 16 + 24 * u64::from(self.count)
+        self.place + HEAD_LENGTH as u64 + CHUNK_ENTRY_LENGTH as u64 * u64::from(self.count)
     }
 
     /// Where an entry of the table stands.
@@ -56,7 +59,7 @@ impl Chunks {
         requires { self.place < 2 ^ 44 }
         ensures { result ≡ self.place + 16 + 24 * position }
     {
-        self.place + 16 + 24 * u64::from(position)
+        self.place + HEAD_LENGTH as u64 + CHUNK_ENTRY_LENGTH as u64 * u64::from(position)
     }
 }
 
@@ -188,7 +191,7 @@ pub fn look_at_chunk_table<B: Blocks>(
     };
     let head = look_at_start::<B, 16>(blocks, page, span, mark)?;
     if !points_to(&head, HEAD_POINTER, tail) {
-        return halt_at(25, chunks.place + 4);
+        return halt_at(25, chunks.place + HEAD_POINTER.offset as u64);
     }
     let list = look_at_chunk_entries(alloc, blocks, page, chunks)?;
     look_at_tail(blocks, page, mark, tail)?;
@@ -281,6 +284,9 @@ fn agrees(listed: Option<u64>, tail: u64) -> bool
     }
 }
 
+// A chunk has a byte of data at least.
+const LEAST_CHUNK: u64 = (HEAD_LENGTH + TAG_LENGTH) as u64 + 1;
+
 // Where the end tag stands, if that is a chunk's, and the table gives it too.
 fn tail_of(span: Span, chunk: Chunk, head: &[u8; 16]) -> Option<u64>
     requires end { span.end < 2 ^ 44 }
@@ -289,7 +295,8 @@ fn tail_of(span: Span, chunk: Chunk, head: &[u8; 16]) -> Option<u64>
     ensures bounds { IfSome result (λ tail. (chunk.place + 17 ≤ tail) × (tail + 3 ≤ span.end)) }
 {
     let tail = place_in(head, HEAD_POINTER)?;
-    if tail + 4 < chunk.place + 21 || span.end + 1 < tail + 4 || !agrees(chunk.listed, tail) {
+    let end = tail + TAG_LENGTH as u64;
+    if end < chunk.place + LEAST_CHUNK || span.end + 1 < end || !agrees(chunk.listed, tail) {
         return None;
     }
     Some(tail)
@@ -321,15 +328,15 @@ pub fn look_at_chunk<B: Blocks>(
         part: Part::Data,
         place: chunk.place,
         rule: 26,
-        least: 21,
+        least: LEAST_CHUNK,
     };
     let head = look_at_start::<B, 16>(blocks, page, span, mark)?;
     let tail = match tail_of(span, chunk, &head) {
         Some(tail) => tail,
-        None => return halt_at(26, chunk.place + 4),
+        None => return halt_at(26, chunk.place + HEAD_POINTER.offset as u64),
     };
     look_at_tail(blocks, page, mark, tail)?;
-    let length = tail + 4 - chunk.place;
+    let length = tail + TAG_LENGTH as u64 - chunk.place;
     if !span.has_room(used, length) {
         return halt_at(14, chunk.place);
     }

@@ -7,19 +7,20 @@ ghost use Rattle.adf_format.specs.Names.{data_size, is_mt, is_lk};
 ghost use Rattle.adf_format.specs.Fields.{field};
 ghost use Rattle.adf_format.specs.Links.{is_link_text};
 ghost use Rattle.adf_format.specs.FirstFault.{ChunkVisit, chunks_in, data_rows, payload_total, payloads_in};
-ghost use Rattle.layout_lint.specs.Told.{Told, IsReady};
+ghost use Rattle.cg_io.specs.Answers.{Told};
+ghost use Rattle.cg_io.specs.Pages.{IsReady};
 ghost use Rattle.layout_lint.specs.Halts.{Finds, HasCount, IsNoFault};
 ghost use Rattle.layout_lint.specs.Chunks.{data_extent, IsChunk};
 ghost use Rattle.layout_lint.specs.Nodes.{IsHeaderAt, numbers_of};
 
-use crate::pages::{Page, read_at};
+use crate::pages::read_at;
 use crate::verdict::{Halt, Span, halt_at};
-use adf_format::fields::NODE_TYPE;
+use adf_format::fields::{HEAD_LENGTH, NODE_TYPE, TAG_LENGTH};
 use adf_format::{DataType, Extent};
 use adf_links::{LONGEST_LINK, split_link};
 use adf_model::{Shape, size};
 use adf_records::{NodeHeader, dimensions_of};
-use cg_io::Blocks;
+use cg_io::{Blocks, Page};
 
 /// The bytes of a node's data, at most 2^64 - 1.
 pub fn size_of_data(header: &NodeHeader) -> u64
@@ -102,9 +103,9 @@ fn gather<B: Blocks>(
 {
     let mut done = 0;
     for chunk in chunks {
-        let payload = chunk.length - 20;
+        let payload = chunk.length - (HEAD_LENGTH + TAG_LENGTH) as u64;
         let count = payload.min((into.len() - done) as u64) as usize;
-        read_part(blocks, page, chunk.place + 16, into, done, count)?;
+        read_part(blocks, page, chunk.place + HEAD_LENGTH as u64, into, done, count)?;
         done += count;
     }
     Ok(())

@@ -4,18 +4,21 @@ ghost use Rattle.std.specs.Prelude.{◌≡◌, ◌^◌, ◌+◌, ◌*◌, ◌≤
 ghost use Rattle.cg_io.specs.Blocks.{ReadsFew};
 ghost use Rattle.adf_format.specs.Parts.{table_length};
 ghost use Rattle.adf_format.specs.FirstFault.{table_rows, entry_rows};
-ghost use Rattle.layout_lint.specs.Told.{Told, IsReady};
+ghost use Rattle.cg_io.specs.Answers.{Told};
+ghost use Rattle.cg_io.specs.Pages.{IsReady};
 ghost use Rattle.layout_lint.specs.Halts.{Finds, HasCount, MayLackMemory};
 ghost use Rattle.layout_lint.specs.Marks.{name_said};
 
 use crate::keys::KeySet;
 use crate::marks::{Mark, look_at_start, look_at_tail};
-use crate::pages::{Page, field_at};
+use crate::pages::field_at;
 use crate::verdict::{Halt, Span, halt_at};
 use adf_chunks::Part;
-use adf_format::fields::{ENTRY_CHILD, ENTRY_NAME, HEAD_POINTER};
+use adf_format::fields::{
+    ENTRY_CHILD, ENTRY_LENGTH, ENTRY_NAME, HEAD_LENGTH, HEAD_POINTER, TAG_LENGTH,
+};
 use adf_records::is_name_field;
-use cg_io::Blocks;
+use cg_io::{Blocks, Page};
 use disk_ptr::fields::{copied, is_place, points_to};
 use std::alloc::Global;
 
@@ -32,14 +35,14 @@ impl SubNodeTable {
         requires { self.place < 2 ^ 44 }
         ensures { result ≡ self.place + 16 + 44 * self.entries }
     {
-        self.place + 16 + 44 * u64::from(self.entries)
+        self.place + HEAD_LENGTH as u64 + ENTRY_LENGTH as u64 * u64::from(self.entries)
     }
 
     /// How many bytes it has.
     pub fn length(self) -> u64
         ensures { result ≡ table_length self.entries }
     {
-        20 + 44 * u64::from(self.entries)
+        (HEAD_LENGTH + TAG_LENGTH) as u64 + ENTRY_LENGTH as u64 * u64::from(self.entries)
     }
 
     /// Where an entry stands.
@@ -47,7 +50,7 @@ impl SubNodeTable {
         requires { self.place < 2 ^ 44 }
         ensures { result ≡ self.place + 16 + 44 * position }
     {
-        self.place + 16 + 44 * u64::from(position)
+        self.place + HEAD_LENGTH as u64 + ENTRY_LENGTH as u64 * u64::from(position)
     }
 }
 
@@ -83,7 +86,7 @@ pub fn look_at_table<B: Blocks>(
     };
     let head = look_at_start::<B, 16>(blocks, page, span, mark)?;
     if !points_to(&head, HEAD_POINTER, tail) {
-        return halt_at(23, table.place + 4);
+        return halt_at(23, table.place + HEAD_POINTER.offset as u64);
     }
     look_at_tail(blocks, page, mark, tail)?;
     if !span.has_room(used, length) {

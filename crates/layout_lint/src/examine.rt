@@ -4,7 +4,8 @@ ghost use Rattle.std.specs.Prelude.{◌≡◌, ◌^◌, ◌+◌, ◌*◌, ◌<�
 ghost use Rattle.cg_io.specs.Blocks.{ReadsFew};
 ghost use Rattle.adf_format.specs.LaysOut.{IsSound};
 ghost use Rattle.adf_records.specs.View.{HasFreeOffsets};
-ghost use Rattle.layout_lint.specs.Told.{Told, IsReady};
+ghost use Rattle.cg_io.specs.Answers.{Told};
+ghost use Rattle.cg_io.specs.Pages.{IsReady};
 ghost use Rattle.layout_lint.specs.Halts.{MayLackMemory};
 ghost use Rattle.layout_lint.specs.Heads.{IsHead};
 ghost use Rattle.layout_lint.specs.Shapes.{HasShape};
@@ -13,12 +14,11 @@ ghost use Rattle.layout_lint.specs.Verdicts.{IsVerdict, NamesRule, IsFault, MayF
 use crate::gaps::look_at_tiling;
 use crate::head::{Head, look_at_head};
 use crate::lists::look_at_lists;
-use crate::pages::Page;
 use crate::verdict::{Halt, Verdict};
 use crate::walk::{FoundNodes, look_at_nodes};
 use adf_format::Listing;
 use adf_model::AdfError;
-use cg_io::Blocks;
+use cg_io::{Blocks, Page};
 use std::alloc::Global;
 
 // The verdict of a file with a sound head, if that is sound.

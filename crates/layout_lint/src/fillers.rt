@@ -5,11 +5,12 @@ ghost use Rattle.cg_io.specs.Blocks.{ReadsFew, blocks_of};
 ghost use Rattle.layout_laws.specs.TilePass.{AreBlank};
 ghost use Rattle.layout_lint.specs.Fillers.{IsHole};
 ghost use Rattle.layout_lint.specs.Halts.{HasCount};
-ghost use Rattle.layout_lint.specs.Told.{Told, IsReady};
+ghost use Rattle.cg_io.specs.Answers.{Told};
+ghost use Rattle.cg_io.specs.Pages.{IsReady};
 
-use crate::pages::{Page, turn_to};
+use crate::pages::turn_to;
 use crate::verdict::{Halt, halt_at};
-use cg_io::Blocks;
+use cg_io::{Blocks, Page};
 
 // The first byte of a piece that is no blank byte.
 fn other_byte(piece: &[u8]) -> Option<usize>

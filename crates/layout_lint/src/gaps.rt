@@ -10,15 +10,15 @@ ghost use Rattle.layout_lint.specs.Fillers.{IsHole};
 ghost use Rattle.layout_lint.specs.Gaps.{IsSolid, StopsAt, IsMisplaced, AreTiled};
 ghost use Rattle.layout_lint.specs.Shapes.{AreSet};
 ghost use Rattle.layout_lint.specs.Halts.{MayLackMemory};
-ghost use Rattle.layout_lint.specs.Told.{Told, IsReady};
+ghost use Rattle.cg_io.specs.Answers.{Told};
+ghost use Rattle.cg_io.specs.Pages.{IsReady};
 ghost use Rattle.cg_io.specs.Blocks.{ReadsFew};
 
 use crate::chunks::add_extent;
 use crate::fillers::look_at_filler;
-use crate::pages::Page;
 use crate::verdict::{Halt, Span, halt_at};
 use adf_format::{Extent, ExtentKind};
-use cg_io::Blocks;
+use cg_io::{Blocks, Page};
 use std::alloc::Global;
 
 fn sort_by_place(extents: &mut Vec<Extent>)

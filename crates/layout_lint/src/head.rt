@@ -9,16 +9,17 @@ ghost use Rattle.adf_format.specs.Records.{header_record, free_table_record};
 ghost use Rattle.adf_format.specs.FirstFault.{row_of_length, header_rows, free_table_rows, head_rows};
 ghost use Rattle.disk_ptr.specs.View.{view, HasOffset};
 ghost use Rattle.adf_records.specs.View.{header_of, pointers_of, HasHeaderOffsets, HasFreeOffsets};
-ghost use Rattle.layout_lint.specs.Told.{Told, IsReady};
+ghost use Rattle.cg_io.specs.Answers.{Told};
+ghost use Rattle.cg_io.specs.Pages.{IsReady};
 ghost use Rattle.layout_lint.specs.Halts.{Finds, HasCount};
 ghost use Rattle.layout_lint.specs.Heads.{IsHead};
 
-use crate::pages::{Page, field_at};
+use crate::pages::field_at;
 use crate::verdict::{Halt, Span, halt_at};
 use adf_format::Format;
 use adf_format::fields::{FREE_TABLE_PLACE, HEADER_END};
 use adf_records::{FILE_HEAD_LENGTH, FileHeader, FreeTable, decode_free, decode_header};
-use cg_io::Blocks;
+use cg_io::{Blocks, Page};
 use disk_ptr::{DiskPtr, place};
 
 /// What the head of a file says.

@@ -8,10 +8,11 @@ ghost use Rattle.cg_io.specs.Blocks.{ReadsFew};
 ghost use Rattle.adf_format.specs.Fields.{field};
 ghost use Rattle.adf_format.specs.Checks.{first_broken};
 ghost use Rattle.adf_format.specs.declared.types.Extent.{Extent};
-ghost use Rattle.adf_format.specs.FirstFault.{Visit, FreeVisit, FreeWalk, chunk_length, free_extent, free_table_rows, found_extents, is_wide};
+ghost use Rattle.adf_format.specs.FirstFault.{Visit, FreeVisit, FreeWalk, chunk_length, free_extent, free_table_rows, found_extents, is_wide, free_rows_at};
 ghost use Rattle.adf_format.specs.Tiles.{total_length};
-ghost use Rattle.layout_laws.specs.ListPass.{free_rows_at, named_place};
-ghost use Rattle.layout_lint.specs.Told.{Told, IsReady};
+ghost use Rattle.layout_laws.specs.ListPass.{named_place};
+ghost use Rattle.cg_io.specs.Answers.{Told};
+ghost use Rattle.cg_io.specs.Pages.{IsReady};
 ghost use Rattle.layout_lint.specs.Halts.{Finds, HasCount, MayLackMemory, IsWant};
 ghost use Rattle.layout_lint.specs.Gaps.{IsSolid};
 ghost use Rattle.layout_lint.specs.Shapes.{Adds};
@@ -24,13 +25,12 @@ ghost use Rattle.disk_ptr.specs.View.{HasOffset};
 use crate::chunks::add_extent;
 use crate::keys::KeySet;
 use crate::marks::{Mark, look_at_start, look_at_tail, place_in};
-use crate::pages::Page;
 use crate::verdict::{Halt, Span, halt_at};
 use adf_chunks::Part;
-use adf_format::fields::{FREE_HEAD_LENGTH, FREE_NEXT, HEAD_POINTER};
+use adf_format::fields::{FREE_HEAD_LENGTH, FREE_NEXT, HEAD_POINTER, TAG_LENGTH};
 use adf_format::{Extent, ExtentKind};
 use adf_records::FreeTable;
-use cg_io::Blocks;
+use cg_io::{Blocks, Page};
 use disk_ptr::fields::pointer_at;
 use disk_ptr::{DiskPtr, place};
 use std::alloc::Global;
@@ -84,7 +84,8 @@ fn tail_of(span: Span, at: u64, head: &[u8; FREE_HEAD_LENGTH]) -> Option<u64>
     ensures bounds { IfSome result (λ tail. (at + 28 ≤ tail) × (tail + 3 ≤ span.end)) }
 {
     let tail = place_in(head, HEAD_POINTER)?;
-    if tail + 4 < at + LEAST_FREE || span.end + 1 < tail + 4 {
+    let end = tail + TAG_LENGTH as u64;
+    if end < at + LEAST_FREE || span.end + 1 < end {
         return None;
     }
     Some(tail)
@@ -123,15 +124,15 @@ fn free_chunk_at<B: Blocks>(
     let head = look_at_start::<B, FREE_HEAD_LENGTH>(blocks, page, span, mark)?;
     let tail = match tail_of(span, at, &head) {
         Some(tail) => tail,
-        None => return halt_at(29, at + 4),
+        None => return halt_at(29, at + HEAD_POINTER.offset as u64),
     };
     let next = match pointer_at(&head, FREE_NEXT) {
         Some(next) => next,
-        None => return halt_at(29, at + 16),
+        None => return halt_at(29, at + FREE_NEXT.offset as u64),
     };
     match look_at_tail(blocks, page, mark, tail) {
         Ok(()) => Ok(FreeChunk {
-            length: tail + 4 - at,
+            length: tail + TAG_LENGTH as u64 - at,
             next: place(next),
         }),
         Err(halt) => Err(halt),

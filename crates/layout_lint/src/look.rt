@@ -8,8 +8,9 @@ ghost use Rattle.adf_format.specs.Names.{is_lk};
 ghost use Rattle.adf_format.specs.Parts.{table_length, node_length};
 ghost use Rattle.adf_format.specs.Tiles.{total_length};
 ghost use Rattle.adf_records.specs.View.{HasOffsets};
-ghost use Rattle.layout_laws.specs.NodePass.{node_rows_at};
-ghost use Rattle.layout_lint.specs.Told.{Told, IsReady};
+ghost use Rattle.adf_format.specs.FirstFault.{node_rows_at};
+ghost use Rattle.cg_io.specs.Answers.{Told};
+ghost use Rattle.cg_io.specs.Pages.{IsReady};
 ghost use Rattle.layout_lint.specs.Halts.{Finds, MayLackMemory};
 ghost use Rattle.layout_lint.specs.Gaps.{IsSolid};
 ghost use Rattle.layout_lint.specs.Shapes.{Adds, AddsNode};
@@ -20,13 +21,12 @@ use crate::contents::look_at_contents;
 use crate::entries::{SubNodeTable, look_at_entries, look_at_table};
 use crate::head::place_of;
 use crate::node::{Met, look_at_header};
-use crate::pages::Page;
 use crate::verdict::{Halt, Span, halt_at};
 use adf_format::fields::NODE_CHILDREN;
 use adf_format::limits::{DEEPEST, MOST_CHILDREN};
 use adf_format::{DataType, Extent, ExtentKind};
 use adf_records::NodeHeader;
-use cg_io::Blocks;
+use cg_io::{Blocks, Page};
 use std::alloc::Global;
 
 /// What a sound node leads to.

@@ -5,15 +5,16 @@ ghost use Rattle.cg_io.specs.Blocks.{ReadsFew};
 ghost use Rattle.adf_format.specs.Pointer.{is_place, place_of};
 ghost use Rattle.adf_format.specs.RuleNumbers.{IsRule};
 ghost use Rattle.adf_format.specs.Fields.{field};
-ghost use Rattle.layout_lint.specs.Told.{Told, IsReady};
+ghost use Rattle.cg_io.specs.Answers.{Told};
+ghost use Rattle.cg_io.specs.Pages.{IsReady};
 ghost use Rattle.layout_lint.specs.Halts.{Finds, HasCount};
 ghost use Rattle.layout_lint.specs.Marks.{start_row, tail_row};
 
-use crate::pages::{Page, field_at};
+use crate::pages::field_at;
 use crate::verdict::{Halt, Span, halt_at};
 use adf_chunks::{Part, begins, is_tail};
 use adf_format::fields::Field;
-use cg_io::Blocks;
+use cg_io::{Blocks, Page};
 use disk_ptr::DiskPtr;
 use disk_ptr::fields::pointer_at;
 

@@ -7,14 +7,15 @@ ghost use Rattle.adf_format.specs.Parts.{node_length};
 ghost use Rattle.adf_format.specs.Records.{node_record};
 ghost use Rattle.adf_format.specs.FirstFault.{node_rows, is_same_name};
 ghost use Rattle.adf_records.specs.View.{record_of, HasOffsets};
-ghost use Rattle.layout_lint.specs.Told.{Told, IsReady};
+ghost use Rattle.cg_io.specs.Answers.{Told};
+ghost use Rattle.cg_io.specs.Pages.{IsReady};
 ghost use Rattle.layout_lint.specs.Halts.{Finds, HasCount};
 ghost use Rattle.layout_lint.specs.Nodes.{header_rows_at};
 
-use crate::pages::{Page, field_at};
+use crate::pages::field_at;
 use crate::verdict::{Halt, Span, halt_at};
 use adf_records::{NodeHeader, decode_named};
-use cg_io::Blocks;
+use cg_io::{Blocks, Page};
 
 /// A node that waits to be looked at.
 #[derive(Clone, Copy, Drop)]

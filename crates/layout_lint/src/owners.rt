@@ -3,13 +3,13 @@
 ghost use Rattle.std.specs.Prelude.{◌≡◌, ◌^◌, ◌+◌, ◌*◌, ◌<◌, ◌++◌, ℕ, Bool, List, length, map, Option, Some, None, IfOk, IfErr, OnOk, ⊤};
 ghost use Rattle.std.specs.List.{All};
 ghost use Rattle.std.specs.List.Sorted.{IsPermutation, IsNonDecreasingBy};
-ghost use Rattle.cg_io.specs.Answers.{IsRefusal};
+ghost use Rattle.cg_io.specs.Answers.{IsRefusal, Told};
 ghost use Rattle.cg_io.specs.Blocks.{ReadsFew};
 ghost use Rattle.adf_format.specs.Tree.{Tree};
 ghost use Rattle.adf_format.specs.Placement.{Placement};
 ghost use Rattle.adf_format.specs.declared.types.Format.{Format};
 ghost use Rattle.adf_format.specs.Verdict.{IsLaidOutAs, ListsExtents};
-ghost use Rattle.layout_lint.specs.Told.{Told, IsReady};
+ghost use Rattle.cg_io.specs.Pages.{IsReady};
 ghost use Rattle.layout_lint.specs.Halts.{IsWant, IsNoFault, MayLackMemory};
 ghost use Rattle.layout_lint.specs.Walks.{node_place};
 ghost use Rattle.layout_lint.specs.Owners.{extent_of, owned_by, owned_from, IsThere, name_of, KeepRules, place_of_node, IsLaidAt, OwnsPlaces, AreNamesAt, OwnsAll, IsNoLayout, refusal_of};
@@ -18,13 +18,12 @@ ghost use Rattle.layout_lint.specs.Paths.{AreNames};
 use crate::head::look_at_head;
 use crate::look::look;
 use crate::node::Met;
-use crate::pages::Page;
 use crate::verdict::{Halt, NodePlace, NodePlaces, Span};
 use adf_format::fields::{FREE_TABLE_LENGTH, FREE_TABLE_PLACE, HEADER_LENGTH};
 use adf_format::{Extent, ExtentKind, Extents, Listing};
 use adf_model::AdfError;
 use adf_records::FILE_HEAD_LENGTH;
-use cg_io::Blocks;
+use cg_io::{Blocks, Page};
 use std::alloc::{AllocError, Global};
 
 /// An extent of a sound file, and the number of the node that it is a part of, if it is one's.

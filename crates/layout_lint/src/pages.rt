@@ -1,33 +1,15 @@
-//! Bytes at a place, read block by block, of which the last is kept.
+//! Bytes at a place, read block by block, of which the last is kept: a failed read as the linter tells it.
 
-ghost use Rattle.std.specs.Prelude.{◌≡◌, ◌^◌, ◌+◌, ◌≤◌, length, None, IfOk, IfErr, OnOk};
-ghost use Rattle.cg_io.specs.Device.{Gives, GivesAt, overwritten};
+ghost use Rattle.std.specs.Prelude.{◌≡◌, ◌^◌, ◌+◌, ◌≤◌, length, IfOk, IfErr, OnOk};
+ghost use Rattle.cg_io.specs.Device.{Gives, GivesAt};
 ghost use Rattle.cg_io.specs.Blocks.{ReadsFew, blocks_of};
-ghost use Rattle.layout_lint.specs.Told.{Told, IsReady};
+ghost use Rattle.cg_io.specs.Answers.{Told};
+ghost use Rattle.cg_io.specs.Pages.{IsReady};
 ghost use Rattle.layout_lint.specs.Halts.{HasCount, IsNoFault};
 ghost use Rattle.adf_format.specs.Fields.{field};
 
 use crate::verdict::Halt;
-use cg_io::Blocks;
-
-/// The block that was read last.
-#[derive(Drop)]
-pub struct Page {
-    pub number: Option<u32>,
-    pub bytes: [u8; 4096],
-}
-
-impl Page {
-    /// No block is read yet.
-    pub fn new() -> Page
-        ensures { result.number ≡ None }
-    {
-        Page {
-            number: None,
-            bytes: [0; 4096],
-        }
-    }
-}
+use cg_io::{Blocks, Page};
 
 /// Turns to a block, by at most one read.
 pub fn turn_to<B: Blocks>(blocks: &mut B, page: &mut Page, n: u32) -> Result<(), Halt>
@@ -40,29 +22,10 @@ pub fn turn_to<B: Blocks>(blocks: &mut B, page: &mut Page, n: u32) -> Result<(),
         (B.state blocks.new).faults) }
     ensures no_fault { IfErr result IsNoFault }
 {
-    if let Some(number) = page.number
-        && number == n
-    {
-        return Ok(());
-    }
-    // A failed read leaves any bytes.
-    page.number = None;
-    match blocks.read_block(n, &mut page.bytes) {
-        Ok(()) => {
-            page.number = Some(n);
-            Ok(())
-        }
+    match cg_io::turn_to(blocks, page, n) {
+        Ok(()) => Ok(()),
         Err(_) => Err(Halt::Read),
     }
-}
-
-// Writes over a part of a slice.
-#[tactic(auto, unfolding(cg_io::specs::Device::padded, cg_io::specs::Device::overwritten))]
-fn patch_slice(into: &mut [u8], start: usize, from: &[u8])
-    requires { start + length from.now ≤ length into.old }
-    ensures { into.new ≡ overwritten into.old start from.now }
-{
-    into[start..start + from.len()].copy_from_slice(from);
 }
 
 /// Reads the bytes from a place on, zeros past the end.
@@ -82,16 +45,10 @@ pub fn read_at<B: Blocks>(
         (B.state blocks.new).faults) }
     ensures no_fault { IfErr result IsNoFault }
 {
-    let mut done = 0;
-    while done < into.len() {
-        let at = place + done as u64;
-        let start = (at % 4096) as usize;
-        let count = (4096 - start).min(into.len() - done);
-        turn_to(blocks, page, (at / 4096) as u32)?;
-        patch_slice(into, done, &page.bytes[start..start + count]);
-        done += count;
+    match cg_io::read_at(blocks, page, place, into) {
+        Ok(()) => Ok(()),
+        Err(_) => Err(Halt::Read),
     }
-    Ok(())
 }
 
 /// The bytes of a field, as many as the caller wants.

@@ -5,7 +5,8 @@ ghost use Rattle.cg_io.specs.Blocks.{ReadsFew};
 ghost use Rattle.adf_format.specs.Fields.{field};
 ghost use Rattle.adf_format.specs.Pointer.{place_of};
 ghost use Rattle.layout_laws.specs.NodePass.{waiting_child};
-ghost use Rattle.layout_lint.specs.Told.{Told, IsReady};
+ghost use Rattle.cg_io.specs.Answers.{Told};
+ghost use Rattle.cg_io.specs.Pages.{IsReady};
 ghost use Rattle.layout_lint.specs.Halts.{HasCount, IsNoFault, IsWant};
 ghost use Rattle.layout_lint.specs.Walks.{waiting_of, TakesNext};
 ghost use Rattle.layout_lint.specs.Shapes.{IsChildIn};
@@ -13,10 +14,10 @@ ghost use Rattle.layout_lint.specs.Shapes.{IsChildIn};
 use crate::entries::SubNodeTable;
 use crate::marks::place_or_zero;
 use crate::node::Met;
-use crate::pages::{Page, field_at};
+use crate::pages::field_at;
 use crate::verdict::Halt;
 use adf_format::fields::{ENTRY_CHILD, ENTRY_NAME};
-use cg_io::Blocks;
+use cg_io::{Blocks, Page};
 use disk_ptr::fields::copied;
 
 /// The children of a node: its number and depth, its table, how many of the entries are in use, and

@@ -3,7 +3,8 @@
 ghost use Rattle.std.specs.Prelude.{◌≡◌, ◌^◌, ◌+◌, ◌-◌, ◌*◌, ◌++◌, ◌∷◌, [], map, ℕ, Bool, List, ◌≤◌, ◌<◌, length, true, false, IfOk, IfErr, OnOk};
 ghost use Rattle.std.specs.List.{All};
 ghost use Rattle.cg_io.specs.Blocks.{ReadsFew};
-ghost use Rattle.layout_lint.specs.Told.{Told, IsReady};
+ghost use Rattle.cg_io.specs.Answers.{Told};
+ghost use Rattle.cg_io.specs.Pages.{IsReady};
 ghost use Rattle.layout_lint.specs.Halts.{MayLackMemory, IsWant};
 ghost use Rattle.layout_lint.specs.Heads.{IsHead, IsSpan};
 ghost use Rattle.layout_lint.specs.Gaps.{IsSolid};
@@ -15,13 +16,12 @@ use crate::head::Head;
 use crate::keys::KeySet;
 use crate::look::{Next, look};
 use crate::node::Met;
-use crate::pages::Page;
 use crate::stack::{Family, child_of, take_next};
 use crate::verdict::{Halt, NodePlace, Span};
 use adf_format::fields::{FREE_TABLE_LENGTH, FREE_TABLE_PLACE, HEADER_LENGTH};
 use adf_format::{Extent, ExtentKind};
 use adf_records::FILE_HEAD_LENGTH;
-use cg_io::Blocks;
+use cg_io::{Blocks, Page};
 use std::alloc::Global;
 
 /// Where the walk stands.

@@ -3,7 +3,7 @@ use Rattle.std.proofs.Common.{◌≡◌, ◌⊎◌, ℕ, List, [], Option, subst
 use Rattle.std.proofs.KnownBytes.{Appends-nil}
 use Rattle.cg_io.specs.Device.{DeviceState}
 use Rattle.adf_model.specs.declared.error.AdfError.{AdfError}
-use Rattle.layout_lint.specs.Told.{Told}
+use Rattle.cg_io.specs.Answers.{Told}
 use Rattle.layout_lint.specs.Owners.{IsNoLayout}
 use Rattle.layout_lint.specs.Verdicts.{IsVerdict, NamesRule, MayFail}
 use Rattle.layout_lint.specs.declared.verdict.Verdict.{Verdict}

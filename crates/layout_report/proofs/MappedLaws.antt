@@ -12,9 +12,8 @@ use Rattle.adf_model.specs.declared.error.AdfError.{AdfError}
 use Rattle.layout_lint.specs.declared.verdict.NodePlace as code
 use Rattle.layout_lint.specs.declared.owners.Owned.{Owned}
 use Rattle.layout_lint.specs.Walks.{node_place}
-use Rattle.layout_lint.specs.Told.{Told}
 use Rattle.layout_lint.specs.Verdicts.{MayFail}
-use Rattle.cg_io.specs.Answers.{IsRefusal}
+use Rattle.cg_io.specs.Answers.{IsRefusal, Told}
 use Rattle.layout_lint.specs.Owners.{IsNoLayout, OwnsAll}
 use Rattle.layout_lint.specs.Paths.{AreNames}
 use Rattle.layout_report.specs.Lines.{fault_line, end_line}

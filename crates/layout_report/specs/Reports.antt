@@ -19,7 +19,7 @@ use Rattle.adf_format.specs.FirstFault.{FirstFault}
 use Rattle.layout_lint.specs.declared.owners.Owned.{Owned}
 use Rattle.layout_lint.specs.declared.verdict.Verdict.{Verdict}
 use Rattle.layout_lint.specs.declared.verdict.Verdict.TheVariants as says
-use Rattle.layout_lint.specs.Told.{Told}
+use Rattle.cg_io.specs.Answers.{Told}
 use Rattle.layout_lint.specs.Owners.{OwnsAll}
 use Rattle.layout_lint.specs.Paths.{IsPath, AreNames}
 use Rattle.layout_lint.specs.Verdicts.{IsVerdict, NamesRule}

@@ -1,9 +1,8 @@
 //! The report on a linter's verdict.
 
 ghost use Rattle.std.specs.Prelude.{◌≡◌, ◌⊎◌, ◌≤◌, ◌+◌, ◌*◌, length, IfOk, IfErr};
-ghost use Rattle.cg_io.specs.Answers.{OnlyReads};
+ghost use Rattle.cg_io.specs.Answers.{OnlyReads, Told};
 ghost use Rattle.cg_io.specs.Blocks.{ReadsFew};
-ghost use Rattle.layout_lint.specs.Told.{Told};
 ghost use Rattle.layout_lint.specs.Verdicts.{IsVerdict, NamesRule, MayFail};
 ghost use Rattle.layout_report.specs.Lines.{verdict_line};
 ghost use Rattle.layout_report.specs.Reports.{Ends, Linted, Says, verdict_report};

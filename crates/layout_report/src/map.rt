@@ -2,7 +2,7 @@
 
 ghost use Rattle.std.specs.Prelude.{◌≡◌, ◌≤◌, ◌+◌, ◌*◌, ◌^◌, Bool, length, map, IfOk, IfErr};
 ghost use Rattle.std.specs.List.{All};
-ghost use Rattle.cg_io.specs.Answers.{OnlyReads};
+ghost use Rattle.cg_io.specs.Answers.{OnlyReads, Told};
 ghost use Rattle.cg_io.specs.Blocks.{ReadsFew};
 ghost use Rattle.adf_format.specs.Tree.{Tree, IsTree, IsNumbered};
 ghost use Rattle.adf_format.specs.Placement.{Placement};
@@ -11,7 +11,6 @@ ghost use Rattle.adf_format.specs.Verdict.{IsLaidOutAs, ListsNodes};
 ghost use Rattle.layout_lint.specs.Owners.{IsThere};
 ghost use Rattle.layout_lint.specs.Paths.{AreNames};
 ghost use Rattle.layout_lint.specs.Shapes.{AreLinked};
-ghost use Rattle.layout_lint.specs.Told.{Told};
 ghost use Rattle.layout_lint.specs.Walks.{node_place};
 ghost use Rattle.layout_report.specs.Lines.{extent_line};
 ghost use Rattle.layout_report.specs.Reports.{IsLine, Listed, Mapped, Says};

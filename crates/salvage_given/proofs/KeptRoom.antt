@@ -5,7 +5,7 @@ use Rattle.std.specs.Prelude.{Option, Some, None, slice_get, nat_lt, ◌==◌, �
 use Rattle.std.specs.List.{filter_map, range_with_len}
 use Rattle.adf_format.specs.declared.types.ExtentKind.{ExtentKind}
 use Rattle.adf_format.specs.Checks.{Row, row, Fault, Survey, surveyed, omits, keeps, first_broken}
-use Rattle.adf_format.specs.FirstFault.{Visit, ChunkVisit, child_visits, visit_rows, visit_extents, found_extents, count_row, table_rows, chunk_table_rows, chunk_rows, rows_unless, is_wide, count_up, type_or_mt, dims_in, children_in, entries_in, table_in, table_extents_at, chunk_count, chunk_in, chunks_in, chunk_table_extents_at, chunk_length, payloads_in}
+use Rattle.adf_format.specs.FirstFault.{Visit, ChunkVisit, child_visits, visit_rows, visit_extents, found_extents, table_rows, chunk_table_rows, chunk_rows, rows_unless, is_wide, count_up, type_or_mt, dims_in, children_in, entries_in, table_in, table_extents_at, chunk_count, chunk_in, chunks_in, chunk_table_extents_at, chunk_length, payloads_in, node_rows_at, count_row_at, one_chunk_rows}
 use Rattle.adf_format.specs.Fields.{field}
 use Rattle.adf_format.specs.Names.{data_size}
 use Rattle.adf_format.specs.Packed.{packed_table, packed_data, packed_nodes, packed_length}
@@ -45,7 +45,7 @@ chunk_table_fits image end used c n false le h =
 
 chunks_fit : (image : List ℕ) (end used : ℕ) (vs : List ChunkVisit) → used ≤ end + 1 → Kept (chunk_rows image end used vs)
     → used + total_length (map (λ (c : ChunkVisit). extent ExtentKind.DataChunk c.place (chunk_length image c.place)) vs) ≤ end + 1
-unfolding chunk_rows
+unfolding chunk_rows one_chunk_rows
 chunks_fit image end used [] le h = omega (arith, le)
 chunks_fit image end used (v ∷ vs) le h =
     let room = room_tells end used (chunk_length image v.place) h.1.1.1.0 in
@@ -65,7 +65,7 @@ split_rows node table entries chunk_table chunks datas count h =
 
 visit_fits : (image : List ℕ) (wide : Bool) (end : ℕ) (seen : List Visit) (v : Visit) → first_broken (visit_rows image wide end seen v) ≡ None
     → total_length (found_extents image wide seen) + total_length (visit_extents image wide v) ≤ end + 1
-unfolding visit_rows visit_extents
+unfolding node_rows_at visit_extents
 visit_fits image wide end seen v e =
     let p = v.place in
     let used = 266 + total_length (found_extents image wide seen) in
@@ -144,7 +144,7 @@ filter_short g a (suc m) = by_first (g a) refl (filter_short g (a + 1) m)
     by_first (Some k) e rest = rw e (omega (arith, rest))
 
 pub fewer : (image : List ℕ) (end : ℕ) (v : Visit) → RowsKept image (is_wide image) end v → children_in image v.place ≤ entries_in image v.place
-unfolding count_row
+unfolding count_row_at
 fewer image end v rows = le_of (children_in image v.place) (entries_in image v.place) (and_parts _ _ (and_parts _ _ (and_parts _ _ rows.count).0).0).0
 
 visit_room : (image : List ℕ) (end : ℕ) (all : List Visit) (v : Visit) → RowsKept image (is_wide image) end v → packed_room true (node_of_visit image (is_wide image) all v) ≤ 2 * total_length (visit_extents image (is_wide image) v)

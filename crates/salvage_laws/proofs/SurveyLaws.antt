@@ -7,11 +7,11 @@ use Rattle.adf_format.specs.Pointer.{place_of}
 use Rattle.adf_format.specs.SoundPart.{last_byte}
 use Rattle.adf_format.specs.Tiles.{total_length}
 use Rattle.adf_format.specs.Checks.{Fault, first_broken, Survey, surveyed, omits as omitted, keeps as kept_one}
-use Rattle.adf_format.specs.FirstFault.{Visit, root_visit, child_visits, visit_rows, found_extents, entry_name, entry_pointer, children_in, table_in, is_wide}
+use Rattle.adf_format.specs.FirstFault.{Visit, root_visit, child_visits, visit_rows, found_extents, entry_name, entry_pointer, children_in, table_in, is_wide, node_rows_at}
 use Rattle.adf_format.proofs.PathLaws.{child_of}
 use Rattle.adf_model.proofs.Basics.{not_there}
-use Rattle.layout_laws.specs.NodePass.{Waiting, IsMet, AreMet, is_known, met_extents, node_rows_at, waiting_child, waiting_children}
-use Rattle.layout_laws.proofs.NodePassLaws.{known_extents, rows_of_node}
+use Rattle.layout_laws.specs.NodePass.{Waiting, IsMet, AreMet, is_known, met_extents, waiting_child, waiting_children}
+use Rattle.layout_laws.proofs.NodePassLaws.{known_extents}
 use Rattle.salvage_laws.specs.Surveys.{IsSurveying, NodeSurvey, Outcome, rows_of, waiting_root, visits_of}
 
 -- ---- lists
@@ -57,8 +57,7 @@ known_places seen (v ∷ vs) (m ∷ ms) place h = ap (λ n. (n == place) || list
 module _ (image : List ℕ) where
   same_rows : (seen : List Visit) (kept : List Waiting) (m : Waiting) (v : Visit) → AreMet seen kept seen → IsMet seen m v → visit_rows image (is_wide image) (last_byte image) seen v ≡ rows_of image kept m
   same_rows seen kept m v found met =
-      rows_of_node image (is_wide image) (last_byte image) seen v
-      ∙ ap (λ b. node_rows_at image (is_wide image) (last_byte image) b (266 + total_length (found_extents image (is_wide image) seen)) v.place v.entry (length v.path)) (known_places seen seen kept v.place found)
+      ap (λ b. node_rows_at image (is_wide image) (last_byte image) b (266 + total_length (found_extents image (is_wide image) seen)) v.place v.entry (length v.path)) (known_places seen seen kept v.place found)
       ∙ ap (λ xs. node_rows_at image (is_wide image) (last_byte image) (is_known kept v.place) (266 + total_length xs) v.place v.entry (length v.path)) (known_extents image (is_wide image) seen seen kept found)
       ∙ ap (λ n. node_rows_at image (is_wide image) (last_byte image) (is_known kept n) (266 + total_length (met_extents image (is_wide image) kept)) n v.entry (length v.path)) (sym met.place)
       ∙ ap (λ o. node_rows_at image (is_wide image) (last_byte image) (is_known kept m.place) (266 + total_length (met_extents image (is_wide image) kept)) m.place o (length v.path)) (sym met.entry)

@@ -8,7 +8,7 @@ use Rattle.std.specs.List.{list_any, filter_map, range_with_len}
 use Rattle.std.specs.Str.{bytes_eq}
 use Rattle.adf_format.specs.Checks.{Fault, Survey, surveyed, omits, keeps}
 use Rattle.adf_format.specs.Fields.{field, trimmed, text_field}
-use Rattle.adf_format.specs.FirstFault.{Visit, child_visits, visit_rows, visit_extents, found_extents, entry_rows, entry_name, entry_pointer, is_name_field, is_named, count_row, count_up, children_in, table_in, fits, row_of_length, header_rows, is_wide, end_in}
+use Rattle.adf_format.specs.FirstFault.{Visit, child_visits, visit_rows, visit_extents, found_extents, entry_rows, entry_name, entry_pointer, is_name_field, is_named, count_row, count_up, children_in, table_in, fits, row_of_length, header_rows, is_wide, end_in, count_row_at}
 use Rattle.adf_format.specs.Parts.{node_length}
 use Rattle.adf_format.specs.Pointer.{is_place}
 use Rattle.adf_format.specs.SoundPart.{IsSoundPart, last_byte, visit_number, children_among, node_of_visit, tree_of}
@@ -100,7 +100,7 @@ entry_differs image t children i j kept lt high e =
     front i = omega arith
 
 counts_kept : (image : List ℕ) (v : Visit) → (count_row image v).kept ≡ true → (nat_le (children_in image v.place) (2 ^ 20) ≡ true) × ((nat_lt (length v.path) 255 || (children_in image v.place == 0)) ≡ true)
-unfolding count_row
+unfolding count_row_at
 counts_kept image v h = let a = and_parts _ _ h in let b = and_parts _ _ a.0 in let c = and_parts _ _ b.0 in (c.1, b.1)
 
 at_most : (m n : ℕ) → nat_le m n ≡ true → m ≤ n

@@ -1,12 +1,12 @@
 -- The survey of the nodes of a damaged file, step by step, with a stack of those that wait.
 use Rattle.std.specs.Prelude.{◌≡◌, ℕ, ◌+◌, List, [], ◌∷◌, length, map, reverse, slice_get, None, Some}
 use Rattle.adf_format.specs.Checks.{Row, Fault, Survey}
-use Rattle.adf_format.specs.FirstFault.{Visit, child_visits, visit_rows, root_visit, is_wide}
+use Rattle.adf_format.specs.FirstFault.{Visit, child_visits, visit_rows, root_visit, is_wide, node_rows_at}
 use Rattle.adf_format.specs.SoundPart.{last_byte}
 use Rattle.adf_format.specs.Tiles.{total_length}
 use Rattle.adf_format.specs.Verdict.{NodePlace}
 use Rattle.layout_laws.specs.FoundLayout.{NamesVisit}
-use Rattle.layout_laws.specs.NodePass.{Waiting, AreMet, is_known, met_extents, node_rows_at}
+use Rattle.layout_laws.specs.NodePass.{Waiting, AreMet, is_known, met_extents}
 
 -- the nodes that are kept, and those that are left out with the first rule that each breaks
 abbrev pub Outcome : Type 0

@@ -4,7 +4,7 @@ use Rattle.adf_model.specs.NamedRules.{NamesRule}
 use Rattle.adf_model.specs.declared.error.AdfError.{AdfError}
 use Rattle.adf_model.specs.declared.error.AdfError.TheVariants as error
 use Rattle.adf_repack.specs.declared.whole.Target.{Target}
-use Rattle.adf_repack.specs.Measures.{WhereTold}
+use Rattle.cg_io.specs.Answers.{Told}
 use Rattle.adf_repack.specs.Repacks.{IsLicensed, wants_memory, unread, unasked, unwritten, not_laid_out, too_long_dimension, not_empty, too_long, IsRepackRefusal, LeavesDevice}
 use Rattle.adf_repack.proofs.SourceLaws.{reads_none}
 use Rattle.cg_io.specs.Device.{DeviceState}
@@ -31,7 +31,7 @@ not_begun wanted e source source_after target is same = record {
 
 -- the copy was refused, over blocks of the device of the file
 pub not_made : (wanted : Target) (e : AdfError) (source opened left source_after target target_after : DeviceState) → opened ≡ source → source_after ≡ left
-    → IsLicensed opened left target target_after e → LeavesDevice target target_after e → WhereTold opened.held (λ image. IsRepackRefusal wanted image target target_after e)
+    → IsLicensed opened left target target_after e → LeavesDevice target target_after e → Told opened.held (λ image. IsRepackRefusal wanted image target target_after e)
     → IsNotMade wanted e source source_after target target_after
 not_made wanted e source opened left source_after target target_after first last licensed leaves refused =
     subst (λ (s : DeviceState). IsNotMade wanted e source s target target_after) (sym last)

@@ -7,7 +7,7 @@ use Rattle.std.proofs.KnownBytes.{Appends-nil, Appends-trans}
 use Rattle.adf_model.specs.declared.error.AdfError.{AdfError}
 use Rattle.adf_model.specs.declared.error.AdfError.TheVariants as error
 use Rattle.adf_repack.proofs.SourceLaws.{reads_none}
-use Rattle.adf_repack.specs.Measures.{WhereTold}
+use Rattle.cg_io.specs.Answers.{Told}
 use Rattle.adf_repack.specs.Repacks.{IsLicensed, wants_memory, LeavesDevice}
 use Rattle.adf_salvage.specs.Salvages.{IsSalvageRefusal}
 use Rattle.adf_salvage.specs.declared.list.Left.{Left}
@@ -34,7 +34,7 @@ not_begun e source source_after target is same = record {
 
 -- it was refused, over blocks of the device of the file
 pub not_saved : (e : AdfError) (source opened left source_after target target_after : DeviceState) → opened ≡ source → source_after ≡ left
-    → IsLicensed opened left target target_after e → LeavesDevice target target_after e → WhereTold opened.held (λ image. IsSalvageRefusal image target target_after e)
+    → IsLicensed opened left target target_after e → LeavesDevice target target_after e → Told opened.held (λ image. IsSalvageRefusal image target target_after e)
     → IsNotSaved e source source_after target target_after
 not_saved e source opened left source_after target target_after first last licensed leaves refused =
     subst (λ (s : DeviceState). IsNotSaved e source s target target_after) (sym last)

@@ -3,7 +3,8 @@ use Rattle.std.specs.Prelude.{◌≡◌, ℕ, Bool, true, false, List, ◌++◌,
 use Rattle.adf_model.specs.Counts.{NoCountFell, OnlyReads}
 use Rattle.adf_model.specs.declared.error.AdfError.{AdfError}
 use Rattle.adf_model.specs.declared.error.AdfError.TheVariants as error
-use Rattle.adf_repack.specs.Measures.{HoldsNone, WhereTold}
+use Rattle.cg_io.specs.Answers.{Told}
+use Rattle.adf_repack.specs.Measures.{HoldsNone}
 use Rattle.adf_repack.specs.Repacks.{IsLicensed, IsRepacked, IsRepackRefusal, IsWritten, LeavesDevice}
 use Rattle.adf_repack.specs.declared.whole.Target.{Target}
 use Rattle.call_script.specs.Replies.{refusal_text}
@@ -18,13 +19,13 @@ use Rattle.tool_commands.specs.declared.status.Status.TheVariants as status
 pub record IsMade (wanted : Target) (end : ℕ) (source target target_after : DeviceState) : Type 0 where
   pub none : HoldsNone target.held
   pub written : IsWritten target target_after end
-  pub packed : WhereTold source.held (λ image. IsRepacked wanted image target_after.held end)
+  pub packed : Told source.held (λ image. IsRepacked wanted image target_after.held end)
 
 -- Why no copy was made, by counts and by what is told, and what it leaves of the device that the copy was to go to.
 pub record IsNotMade (wanted : Target) (e : AdfError) (source source_after target target_after : DeviceState) : Type 0 where
   pub licensed : IsLicensed source source_after target target_after e
   pub left : LeavesDevice target target_after e
-  pub refused : WhereTold source.held (λ image. IsRepackRefusal wanted image target target_after e)
+  pub refused : Told source.held (λ image. IsRepackRefusal wanted image target target_after e)
 
 -- a copy with its last byte, or why there is none
 abbrev pub IsCopy : Target → Result ℕ AdfError → DeviceState → DeviceState → DeviceState → DeviceState → Type 0

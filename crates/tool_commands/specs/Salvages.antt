@@ -4,7 +4,8 @@ use Rattle.std.specs.List.{flat_map}
 use Rattle.std.specs.Io.KnownBytes.{Appends}
 use Rattle.adf_model.specs.Counts.{NoCountFell, OnlyReads}
 use Rattle.adf_model.specs.declared.error.AdfError.{AdfError}
-use Rattle.adf_repack.specs.Measures.{HoldsNone, WhereTold}
+use Rattle.cg_io.specs.Answers.{Told}
+use Rattle.adf_repack.specs.Measures.{HoldsNone}
 use Rattle.adf_repack.specs.Repacks.{IsLicensed, IsWritten, LeavesDevice}
 use Rattle.adf_salvage.specs.Salvages.{IsSalvaged, IsSalvageRefusal}
 use Rattle.adf_salvage.specs.declared.list.Left.{Left}
@@ -22,13 +23,13 @@ use Rattle.tool_commands.specs.declared.status.Status.TheVariants as status
 pub record IsSaved (saved : Saved) (source target target_after : DeviceState) : Type 0 where
   pub none : HoldsNone target.held
   pub written : IsWritten target target_after saved.end
-  pub packed : WhereTold source.held (λ image. IsSalvaged image target_after.held saved.end saved.left)
+  pub packed : Told source.held (λ image. IsSalvaged image target_after.held saved.end saved.left)
 
 -- Why no copy was made, by counts and by what is told, and what it leaves of the device that the copy was to go to.
 pub record IsNotSaved (e : AdfError) (source source_after target target_after : DeviceState) : Type 0 where
   pub licensed : IsLicensed source source_after target target_after e
   pub left : LeavesDevice target target_after e
-  pub refused : WhereTold source.held (λ image. IsSalvageRefusal image target target_after e)
+  pub refused : Told source.held (λ image. IsSalvageRefusal image target target_after e)
 
 -- what was saved, or why there is no copy
 abbrev pub IsSalvage : Result Saved AdfError → DeviceState → DeviceState → DeviceState → DeviceState → Type 0

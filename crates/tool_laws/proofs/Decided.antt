@@ -8,7 +8,8 @@ use Rattle.adf_library.specs.Shelf.{SlotState, device_at, with_device}
 use Rattle.adf_model.specs.Counts.{Rose}
 use Rattle.adf_model.specs.declared.error.AdfError.{AdfError}
 use Rattle.adf_model.specs.declared.error.AdfError.TheVariants as error
-use Rattle.adf_repack.specs.Measures.{HoldsNone, HoldsSome, WhereTold}
+use Rattle.cg_io.specs.Answers.{Told}
+use Rattle.adf_repack.specs.Measures.{HoldsNone, HoldsSome}
 use Rattle.adf_repack.specs.Repacks.{IsLicensed, wants_memory, unread, unasked, unwritten, not_laid_out, too_long_dimension, not_empty, too_long, IsRepackRefusal, IsRefused}
 use Rattle.adf_repack.specs.declared.whole.Target.{Target}
 use Rattle.adf_tree.specs.Making.{MakesFresh}
@@ -184,7 +185,7 @@ module _ (source source_after target target_after : DeviceState) (quiet : Rose s
   salvage_given : (made : Result Saved AdfError) → IsSalvage made source source_after target target_after → Ends (salvage_status made) (GivesSalvage (salvage_status made) source target)
   salvage_given (Ok saved) h = by_left saved.left h.packed
     where
-      by_left : (left : List Left) → WhereTold source.held (λ image. IsSalvaged image target_after.held saved.end left) → Ends (saved_status left) (GivesSalvage (saved_status left) source target)
+      by_left : (left : List Left) → Told source.held (λ image. IsSalvaged image target_after.held saved.end left) → Ends (saved_status left) (GivesSalvage (saved_status left) source target)
       by_left [] packed = inr (inl (refl, (h.none, λ image e. none_left image target_after.held saved.end (packed image e))))
       by_left (first ∷ others) packed = inr (inr (refl, λ image e. some_left image first others target_after.held saved.end (packed image e)))
   salvage_given (Err e) h = refused_ends e _ _ h.licensed (λ says image told. no_part e says h.licensed image (h.refused image told))

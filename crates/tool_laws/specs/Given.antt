@@ -12,7 +12,8 @@ use Rattle.adf_library.specs.Shelf.{SlotState, device_at}
 use Rattle.adf_model.specs.Counts.{Rose}
 use Rattle.adf_model.specs.Steps.{NoFault}
 use Rattle.adf_repack.specs.Given.{in_version}
-use Rattle.adf_repack.specs.Measures.{WhereTold, HoldsNone, HoldsSome}
+use Rattle.cg_io.specs.Answers.{Told}
+use Rattle.adf_repack.specs.Measures.{HoldsNone, HoldsSome}
 use Rattle.adf_repack.specs.Repacks.{FitsVersion, HasLongDimension, width_for}
 use Rattle.adf_repack.specs.declared.whole.Target.{Target}
 use Rattle.adf_salvage.specs.Parts.{HasNoPart}
@@ -51,7 +52,7 @@ GivesFresh result device = IsDecided result (HoldsNone device.held) (HoldsSome d
 
 -- a report is done exactly on a file that lays out a tree
 abbrev pub GivesReport : Status → DeviceState → Type 0
-GivesReport result device = IsDecided result (WhereTold device.held HasTree) (WhereTold device.held HasFault)
+GivesReport result device = IsDecided result (Told device.held HasTree) (Told device.held HasFault)
 
 -- ---- copies
 
@@ -75,7 +76,7 @@ HasNoCopy wanted target image = HasFault image ⊎ ((tree : Tree) × (placement 
 
 -- a copy is made where the file has one and the device holds nothing
 abbrev pub GivesCopy : Target → Status → DeviceState → DeviceState → Type 0
-GivesCopy wanted result source target = IsDecided result (HoldsNone target.held × WhereTold source.held (HasCopy wanted)) (WhereTold source.held (HasNoCopy wanted target))
+GivesCopy wanted result source target = IsDecided result (HoldsNone target.held × Told source.held (HasCopy wanted)) (Told source.held (HasNoCopy wanted target))
 
 -- ---- salvages
 
@@ -91,7 +92,7 @@ pub data HasNoWholePart (target : DeviceState) (image : List ℕ) : Type 0 where
 
 -- a salvage is done where it copies all nodes
 abbrev pub GivesSalvage : Status → DeviceState → DeviceState → Type 0
-GivesSalvage result source target = IsDecided result (HoldsNone target.held × WhereTold source.held HasWholePart) (WhereTold source.held (HasNoWholePart target))
+GivesSalvage result source target = IsDecided result (HoldsNone target.held × Told source.held HasWholePart) (Told source.held (HasNoWholePart target))
 
 -- ---- sessions
 

@@ -15,7 +15,7 @@ use Rattle.adf_format.specs.Links.{is_link_text}
 use Rattle.adf_format.specs.Parts.{node_length, dimension_digits, payload}
 use Rattle.adf_format.specs.Tree.{Node, IsNode, IsLinkNode, node_at}
 use Rattle.adf_format.specs.Checks.{Row, first_broken}
-use Rattle.adf_format.specs.FirstFault.{NodeWalk, head_rows, row_of_length, header_rows, end_rows, end_in, is_wide, Visit, ChunkVisit, fits, visit_rows, node_rows, text_rows, number_rows, pointer_rows, shape_rows, dimension_row, entry_rows, count_row, chunk_rows, data_rows, is_named, type_or_mt, count_up, children_in, table_in, dims_in, chunks_in, chunk_length, payloads_in, payload_total, agrees}
+use Rattle.adf_format.specs.FirstFault.{NodeWalk, head_rows, row_of_length, header_rows, end_rows, end_in, is_wide, Visit, ChunkVisit, fits, visit_rows, node_rows, text_rows, number_rows, pointer_rows, shape_rows, dimension_row, entry_rows, count_row, chunk_rows, data_rows, is_named, type_or_mt, count_up, children_in, table_in, dims_in, chunks_in, chunk_length, payloads_in, payload_total, agrees, node_rows_at, count_row_at, one_chunk_rows}
 use Rattle.adf_format.specs.SoundPart.{tree_of, data_when, children_among, node_of_visit, visit_number}
 use Rattle.adf_format.proofs.FieldLaws.{inner_field, length-field}
 use Rattle.adf_format.proofs.RowLaws.{kept_index, length-counted}
@@ -49,7 +49,7 @@ split_rows a table entries chunk_table chunks payloads count h =
     (left_part a (count ∷ table) h4, (right_part a (count ∷ table) h4).0, right_part (a ++ (count ∷ table)) entries h3, right_part (a ++ (count ∷ table) ++ entries ++ chunk_table) chunks h1, right_part (a ++ (count ∷ table) ++ entries ++ chunk_table ++ chunks) payloads h)
 
 pub visit_kept : (image : List ℕ) (wide : Bool) (end : ℕ) (v : Visit) → Passed image wide end v → VisitKept image wide end v
-unfolding visit_rows
+unfolding node_rows_at
 visit_kept image wide end v p =
     let all = all_kept (visit_rows image wide end p.0 v) p.1 in
     let parts = split_rows _ _ _ _ _ _ _ all.1.1.1 in
@@ -184,7 +184,7 @@ chunk_long : (length_of place tail end : ℕ) → place + 21 ≤ tail + 4 → ta
 chunk_long n c tail end h k l = omega (arith, h, k, l)
 
 pub payloads_long : (image : List ℕ) (end used : ℕ) (vs : List ChunkVisit) → end < length image → Kept (chunk_rows image end used vs) → length (payloads_in image vs) ≡ payload_total image vs
-unfolding chunk_rows
+unfolding chunk_rows one_chunk_rows
 payloads_long image end used [] h k = refl
 payloads_long image end used (v ∷ vs) h k =
     let tail = place_of (field image (v.place + 4) 12) in
@@ -208,7 +208,7 @@ unfolding data_rows
 datas_kept image wide p h = let r = and_parts _ _ h.0 in let s = and_parts _ _ r.0 in (s.0, s.1, r.1, h.1.0)
 
 counts_kept : (image : List ℕ) (v : Visit) → (count_row image v).kept ≡ true → (not (is_lk (type_or_mt (field image (v.place + 96) 32))) || (children_in image v.place == 0)) ≡ true
-unfolding count_row
+unfolding count_row_at
 counts_kept image v h = (and_parts _ _ h).1
 
 -- ---- the node of a visit

@@ -1,6 +1,6 @@
 use Rattle.std.proofs.Common.{◌≡◌, ℕ, ◌+◌, ◌≤◌, ◌-◌, List, length, arith, ◌∙◌, subst, sym}
 use Rattle.std.specs.Prelude.{Option}
-use Rattle.adf_data.specs.Pages.{IsPage}
+use Rattle.cg_io.specs.Pages.{IsPage}
 use Rattle.adf_data.specs.Chunks.{parts_of}
 use borrow.Rule.Slice.PartMut.{put_mid}
 use Rattle.adf_data.proofs.SpanLaws.{read_more, length-put, span_taken}

@@ -1,6 +1,6 @@
 use Rattle.std.proofs.Common.{◌≡◌, ℕ, ◌+◌, ◌-◌, ◌≤◌, List, length, arith, ◌∙◌, subst, sym}
 use Rattle.std.specs.Prelude.{Option}
-use Rattle.adf_data.specs.Pages.{IsPage}
+use Rattle.cg_io.specs.Pages.{IsPage}
 use Rattle.adf_format.specs.HeapRule.{payload_length}
 use Rattle.adf_data.specs.Chunks.{parts_of}
 use Rattle.adf_data.specs.Ranges.{IsRead}

@@ -1,7 +1,7 @@
 use Rattle.std.proofs.Common.{◌≡◌, take, length}
 use Rattle.cg_io.specs.Answers.{OnlyReads}
 use Rattle.adf_data.specs.Chunks.{parts_of}
-use Rattle.adf_data.specs.Pages.{IsPage}
+use Rattle.cg_io.specs.Pages.{IsPage}
 use Rattle.adf_data.specs.Ranges.{IsSpot}
 use Rattle.adf_data.specs.Runs.{run_bytes, RunsRead}
 use Rattle.adf_data.proofs.runs.read_each.Given as goal

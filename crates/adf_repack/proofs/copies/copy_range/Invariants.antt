@@ -1,7 +1,7 @@
 use Rattle.std.proofs.Common.{◌-◌, ◌+◌, ◌≤◌, ◌≡◌, ℕ, List, Some}
 use Rattle.adf_model.specs.Counts.{OnlyReads}
 use Rattle.cg_io.specs.Device.{bytes_at}
-use Rattle.adf_repack.specs.Sources.{IsReady}
+use Rattle.cg_io.specs.Pages.{IsReady}
 use Rattle.adf_repack.specs.Writers.{IsWriter, appended_in, with_more, count_in, blocks_in, state_under, WritesBlocks, OnlyWrites}
 use Rattle.adf_repack.proofs.copies.copy_range.Given as goal
 

@@ -2,7 +2,7 @@ use Rattle.std.proofs.Common.{◌+◌, ◌-◌, ◌≤◌, ◌≡◌, ℕ, List,
 use Rattle.adf_model.specs.Counts.{OnlyReads}
 use Rattle.adf_records.specs.View.{record_of}
 use Rattle.adf_repack.specs.Payloads.{payloads_until}
-use Rattle.adf_repack.specs.Sources.{IsReady}
+use Rattle.cg_io.specs.Pages.{IsReady}
 use Rattle.adf_repack.specs.Writers.{IsWriter, appended_in, with_more, count_in, blocks_in, state_under, WritesBlocks, OnlyWrites}
 use Rattle.adf_repack.proofs.data.copy_payloads.Given as goal
 

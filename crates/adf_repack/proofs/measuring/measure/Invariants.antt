@@ -1,5 +1,5 @@
 use Rattle.adf_model.specs.Counts.{OnlyReads}
-use Rattle.adf_repack.specs.Sources.{IsReady}
+use Rattle.cg_io.specs.Pages.{IsReady}
 use Rattle.adf_repack.specs.Measures.{AllFit, AreMeasured}
 use Rattle.adf_repack.proofs.measuring.measure.Given as goal
 

@@ -1,5 +1,6 @@
 use Rattle.adf_model.specs.Counts.{OnlyReads}
-use Rattle.layout_lint.specs.Told.{Told, IsReady}
+use Rattle.cg_io.specs.Answers.{Told}
+use Rattle.cg_io.specs.Pages.{IsReady}
 use Rattle.layout_lint.specs.Walks.{waiting_in}
 use Rattle.adf_salvage.specs.Surveys.{IsStart, IsGoing, IsSurvey, ahead}
 use Rattle.adf_salvage.proofs.survey.survey.Given as goal

@@ -1,6 +1,6 @@
 use Rattle.std.proofs.Common.{refl, subst}
 use Rattle.std.proofs.lemmas.Result.{on_ok_weaker}
-use Rattle.layout_laws.specs.NodePass.{node_rows_at}
+use Rattle.adf_format.specs.FirstFault.{node_rows_at}
 use Rattle.layout_lint.specs.Halts.{Breaks, MayLackMemory}
 use Rattle.adf_salvage.specs.Surveys.{Keeps, Omits}
 use Rattle.adf_salvage.proofs.GoingLaws.{kept_going, omitted_going}

@@ -3,7 +3,8 @@ use Rattle.std.specs.List.{All, range_with_len}
 use Rattle.cg_io.specs.Blocks.{ReadsFew}
 use Rattle.adf_format.specs.Checks.{first_broken}
 use Rattle.adf_format.specs.FirstFault.{count_up}
-use Rattle.layout_lint.specs.Told.{Told, IsReady}
+use Rattle.cg_io.specs.Answers.{Told}
+use Rattle.cg_io.specs.Pages.{IsReady}
 use Rattle.layout_lint.specs.Chunks.{chunk_entry_row, entry_visit, listed_chunks, IsNear}
 use Rattle.layout_lint.proofs.chunks.look_at_chunk_entries.Given as goal
 

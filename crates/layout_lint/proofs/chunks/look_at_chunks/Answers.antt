@@ -2,9 +2,9 @@ use Rattle.std.proofs.Common.{◌≡◌, ◌∙◌, ◌-◌, ap, subst, refl, ar
 use Rattle.std.specs.Prelude.{None}
 use Rattle.std.specs.List.{range_with_len}
 use Rattle.adf_format.specs.Checks.{first_broken}
-use Rattle.adf_format.specs.FirstFault.{ChunkVisit, chunk_rows, chunk_length}
+use Rattle.adf_format.specs.FirstFault.{ChunkVisit, chunk_rows, chunk_length, one_chunk_rows}
 use Rattle.layout_lint.specs.Halts.{Breaks}
-use Rattle.layout_lint.specs.Chunks.{visit_of, chunk_visit, chunk_list, one_chunk_rows}
+use Rattle.layout_lint.specs.Chunks.{visit_of, chunk_visit, chunk_list}
 use Rattle.cg_io.proofs.ReadLaws.{reads_then}
 use Rattle.layout_lint.proofs.ChunkListLaws.{breaks_here, kept_here, used_here, payload_here, extents_here, adds_one, none_left, no_chunks, same_extent, breaks_like}
 use Rattle.layout_lint.proofs.RowSteps.{ended_by}

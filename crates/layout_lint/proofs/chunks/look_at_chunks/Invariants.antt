@@ -4,7 +4,8 @@ use Rattle.cg_io.specs.Blocks.{ReadsFew}
 use Rattle.adf_format.specs.Tiles.{total_length}
 use Rattle.adf_format.specs.Checks.{first_broken}
 use Rattle.adf_format.specs.FirstFault.{ChunkVisit, chunk_rows, payload_total}
-use Rattle.layout_lint.specs.Told.{Told, IsReady}
+use Rattle.cg_io.specs.Answers.{Told}
+use Rattle.cg_io.specs.Pages.{IsReady}
 use Rattle.layout_lint.specs.Chunks.{AreListed, chunk_visit, chunk_list, data_extent, AddsChunks}
 use Rattle.layout_lint.proofs.chunks.look_at_chunks.Given as goal
 

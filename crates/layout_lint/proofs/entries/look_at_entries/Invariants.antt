@@ -6,7 +6,8 @@ use Rattle.layout_lint.specs.Keys.{contains}
 use Rattle.cg_io.specs.Blocks.{ReadsFew}
 use Rattle.adf_format.specs.Checks.{first_broken}
 use Rattle.adf_format.specs.FirstFault.{entry_rows}
-use Rattle.layout_lint.specs.Told.{Told, IsReady}
+use Rattle.cg_io.specs.Answers.{Told}
+use Rattle.cg_io.specs.Pages.{IsReady}
 use Rattle.layout_lint.specs.Entries.{is_repeated, entry_row}
 use Rattle.layout_lint.proofs.entries.look_at_entries.Given as goal
 

@@ -1,7 +1,8 @@
 use Rattle.std.proofs.Common.{length, ◌-◌, ◌≡◌, ◌⊎◌, ◌%◌, ◌≤◌}
 use Rattle.cg_io.specs.Blocks.{ReadsFew, blocks_of}
 use Rattle.layout_laws.specs.TilePass.{AreBlank}
-use Rattle.layout_lint.specs.Told.{Told, IsReady}
+use Rattle.cg_io.specs.Answers.{Told}
+use Rattle.cg_io.specs.Pages.{IsReady}
 use Rattle.layout_lint.proofs.fillers.look_at_filler.Given as goal
 
 abbrev pub invariant-loop-at : goal.invariant-loop-at

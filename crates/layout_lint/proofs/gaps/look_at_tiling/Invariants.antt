@@ -1,6 +1,7 @@
 use Rattle.std.proofs.Common.{length, ◌+◌, ◌<◌, ◌≤◌}
 use Rattle.cg_io.specs.Blocks.{ReadsFew}
-use Rattle.layout_lint.specs.Told.{Told, IsReady}
+use Rattle.cg_io.specs.Answers.{Told}
+use Rattle.cg_io.specs.Pages.{IsReady}
 use Rattle.layout_lint.proofs.SetLaws.{blanks}
 use Rattle.layout_lint.proofs.TilingLaws.{IsAt}
 use Rattle.layout_lint.proofs.gaps.look_at_tiling.Given as goal

@@ -4,7 +4,8 @@ use Rattle.std.specs.List.{All}
 use Rattle.cg_io.specs.Blocks.{ReadsFew}
 use Rattle.adf_format.specs.declared.types.Extent.{Extent}
 use Rattle.adf_format.specs.FirstFault.{Visit, FreeVisit}
-use Rattle.layout_lint.specs.Told.{Told, IsReady}
+use Rattle.cg_io.specs.Answers.{Told}
+use Rattle.cg_io.specs.Pages.{IsReady}
 use Rattle.layout_lint.specs.Gaps.{IsSolid}
 use Rattle.layout_lint.specs.Shapes.{Adds}
 use Rattle.layout_lint.specs.Heads.{IsSpan}

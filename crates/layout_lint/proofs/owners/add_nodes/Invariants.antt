@@ -1,7 +1,8 @@
 use Rattle.std.proofs.Common.{◌≡◌, ◌<◌, ◌≤◌, ◌+◌, ◌-◌, ◌++◌, map, length, take, drop}
 use Rattle.cg_io.specs.Blocks.{ReadsFew}
 use Rattle.std.specs.List.{All}
-use Rattle.layout_lint.specs.Told.{Told, IsReady}
+use Rattle.cg_io.specs.Answers.{Told}
+use Rattle.cg_io.specs.Pages.{IsReady}
 use Rattle.layout_lint.specs.Owners.{owned_from, IsThere, name_of, KeepRules}
 use Rattle.layout_lint.proofs.owners.add_nodes.Given as goal
 

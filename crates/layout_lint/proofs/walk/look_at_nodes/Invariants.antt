@@ -1,6 +1,7 @@
 use Rattle.std.proofs.Common.{◌+◌, ◌-◌}
 use Rattle.cg_io.specs.Blocks.{ReadsFew}
-use Rattle.layout_lint.specs.Told.{Told, IsReady}
+use Rattle.cg_io.specs.Answers.{Told}
+use Rattle.cg_io.specs.Pages.{IsReady}
 use Rattle.layout_lint.specs.Heads.{IsHead}
 use Rattle.layout_lint.specs.Walks.{IsSearch, waiting_in, spare}
 use Rattle.layout_lint.specs.Shapes.{IsGoing}
