@@ -10,7 +10,7 @@ use Rattle.adf_format.specs.declared.fields.TheConstants.{NODE_NAME}
 use Rattle.node_reads.specs.Entries.{chunk_head_rows}
 use Rattle.node_reads.specs.Headers.{header_rows}
 use Rattle.node_reads.specs.Reads.{Breaks}
-use Rattle.layout_lint.proofs.RuleLaws.{header_rule, node_rule}
+use Rattle.layout_laws.proofs.RuleRows.{header_rule, node_rule}
 use Rattle.layout_lint.specs.declared.verdict.NodePlace.{NodePlace}
 use Rattle.adf_repack.specs.declared.plan.Plan.{Plan}
 use Rattle.adf_repack.specs.Measures.{BreaksShape}

@@ -1,49 +1,12 @@
 -- What a header of a node breaks is a rule of a layout.
-use Rattle.std.proofs.Common.{◌≡◌, ℕ, ◌≤◌, Bool, true, false, cond, List, [], ◌∷◌, map, refl, subst, arith}
-use Rattle.std.proofs.lemmas.Bool.Decides.{nat_tests}
-use Rattle.std.specs.Prelude.{Option, None, Some, nat_le, ◌&&◌}
+use Rattle.std.proofs.Common.{ℕ, Bool, List}
+use Rattle.std.specs.Prelude.{Option, None}
 use Rattle.adf_format.specs.RecordFields.{field_in}
 use Rattle.adf_format.specs.RuleNumbers.{IsRule}
-use Rattle.adf_format.specs.Checks.{Row, Fault, first_broken}
-use Rattle.adf_format.specs.FirstFault.{is_same_name, node_rows, text_rows, number_rows, pointer_rows, shape_rows, dimension_row}
+use Rattle.adf_format.specs.FirstFault.{is_same_name}
 use Rattle.adf_format.specs.declared.fields.TheConstants.{NODE_NAME}
-use Rattle.adf_model.proofs.Basics.{and_parts}
+use Rattle.layout_laws.proofs.RuleRows.{node_rule}
 use Rattle.tree_edits.specs.Causes.{HeaderBreaks}
-
--- whether each of some rules is one of a layout
-abbrev are_rules : List Row → Bool
-are_rules [] = true
-are_rules (r ∷ rows) = nat_le 1 r.fault.rule && nat_le r.fault.rule 30 && are_rules rows
-
-rule_of : (n : ℕ) → (nat_le 1 n && nat_le n 30) ≡ true → IsRule n
-rule_of n h = let both = and_parts (nat_le 1 n) (nat_le n 30) h in (low n both.0, high n both.1)
-  where
-    low : (n : ℕ) → nat_le 1 n ≡ true → 1 ≤ n
-    low n h = grind (arith, nat_tests)
-
-    high : (n : ℕ) → nat_le n 30 ≡ true → n ≤ 30
-    high n h = grind (arith, nat_tests)
-
-first_is : (rows : List Row) (f : Fault) → are_rules rows ≡ true → first_broken rows ≡ Some f → IsRule f.rule
-first_is [] f are e = cc
-first_is (r ∷ rows) f are e = let parts = and_parts (nat_le 1 r.fault.rule && nat_le r.fault.rule 30) (are_rules rows) are in by_test r.kept e parts.0 (first_is rows f parts.1)
-  where
-    by_test : (kept : Bool) → cond kept (first_broken rows) (Some r.fault) ≡ Some f → (nat_le 1 r.fault.rule && nat_le r.fault.rule 30) ≡ true → (first_broken rows ≡ Some f → IsRule f.rule) → IsRule f.rule
-    by_test true e here later = later e
-    by_test false e here later = let same : r.fault ≡ f = cc in subst (λ (g : Fault). IsRule g.rule) same (rule_of r.fault.rule here)
-
-dimensions_are : (wide : Bool) (base : ℕ) (bytes : List ℕ) (is : List ℕ) → are_rules (map (dimension_row wide base bytes) is) ≡ true
-unfolding dimension_row
-dimensions_are wide base bytes [] = refl
-dimensions_are wide base bytes (i ∷ is) = dimensions_are wide base bytes is
-
-node_are : (wide named : Bool) (base : ℕ) (bytes : List ℕ) → are_rules (node_rows wide base named bytes) ≡ true
-unfolding node_rows text_rows number_rows pointer_rows shape_rows
-node_are false named base bytes = dimensions_are false base bytes _
-node_are true named base bytes = dimensions_are true base bytes _
-
-node_rule : (wide named : Bool) (base : ℕ) (bytes : List ℕ) (f : Fault) → first_broken (node_rows wide base named bytes) ≡ Some f → IsRule f.rule
-node_rule wide named base bytes f = first_is (node_rows wide base named bytes) f (node_are wide named base bytes)
 
 pub header_rule : (wide : Bool) (held : Option (List ℕ)) (place rule at : ℕ) → HeaderBreaks wide held place rule at → IsRule rule
 header_rule wide held place rule at b = node_rule wide (is_same_name None (field_in b.bytes NODE_NAME)) place b.bytes (record { rule = rule; place = at }) b.says

@@ -1,4 +1,5 @@
 pub mod Rows
+pub mod RuleRows
 pub mod Frames
 pub mod NodeRead
 pub mod HeldParts

@@ -1,7 +1,6 @@
 pub mod KeyLaws
 pub mod PageLaws
 pub mod RowSteps
-pub mod RuleLaws
 pub mod HeadLaws
 pub mod EntryLaws
 pub mod TableLaws

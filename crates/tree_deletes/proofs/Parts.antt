@@ -33,7 +33,8 @@ use Rattle.tree_edits.proofs.Parents.{placed_at, none_some}
 use Rattle.tree_asks.specs.Told.{OfEach}
 use Rattle.tree_deletes.specs.declared.doomed.Doomed.{Doomed}
 use Rattle.tree_deletes.specs.Doomed.{IsDoomed, MeansNone}
-use Rattle.tree_deletes.proofs.RuleLaws.{header_rule, table_rule}
+use Rattle.layout_laws.proofs.RuleRows.{node_rule}
+use Rattle.tree_deletes.proofs.RuleLaws.{table_rule}
 
 named_is : (d : DiskPtr) (o : Option ℕ) → place_of d ≡ o → view d ≡ pointer_to o
 named_is blank o e = ap pointer_to e
@@ -99,7 +100,7 @@ module _ (core : Core) (serial : ℕ) (row : Row) (found : row_of core.rows.item
 
   pub header_unread : (held : Option (List ℕ)) (before now : ℕ) (e : AdfError) → IsUnread (Breaks held row.place (node_length core.wide) (header_rows core.wide row.place None)) before now e → IsRefusal (MeansNone core held) before now e
   header_unread held before now error.ReadFault h = h
-  header_unread held before now (error.Layout rule at) h = (header_rule core.wide _ row.place h.bytes (record { rule = rule; place = at }) h.says, broken_none held rule at (inl h))
+  header_unread held before now (error.Layout rule at) h = (node_rule core.wide _ row.place h.bytes (record { rule = rule; place = at }) h.says, broken_none held rule at (inl h))
   header_unread held before now other h = absurd h
 
   pub table_unread : (held : Option (List ℕ)) (before now : ℕ) (e : AdfError) (header : NodeHeader) → ReadAt held row.place (node_length core.wide) (IsHeader core.wide row.place None header) → IsFault (first_broken (table_rows header row.place)) e → IsRefusal (MeansNone core held) before now e

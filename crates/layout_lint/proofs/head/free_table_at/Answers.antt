@@ -2,7 +2,7 @@ use Rattle.std.proofs.Common.{◌≡◌, ◌+◌, subst, None, Some}
 use Rattle.adf_format.specs.Checks.{first_broken}
 use Rattle.adf_format.specs.FirstFault.{free_table_rows}
 use Rattle.layout_lint.proofs.HeadLaws.{free_kept, free_broken}
-use Rattle.layout_lint.proofs.RuleLaws.{free_table_rule}
+use Rattle.layout_laws.proofs.RuleRows.{free_table_rule}
 use Rattle.layout_lint.proofs.head.free_table_at.Goals as goal
 
 pub returns-in-Ok-clause-rows : goal.returns-in-Ok-clause-rows

@@ -1,4 +1,4 @@
-use Rattle.layout_lint.proofs.RuleLaws.{header_rule}
+use Rattle.layout_laws.proofs.RuleRows.{header_rule}
 use Rattle.layout_lint.proofs.head.header_at.Goals as goal
 
 pub returns-in-Err-clause-cause : goal.returns-in-Err-clause-cause

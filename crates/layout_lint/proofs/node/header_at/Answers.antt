@@ -1,7 +1,7 @@
 use Rattle.std.proofs.Common.{◌∙◌, ap, sym, arith}
 use Rattle.adf_format.specs.Checks.{first_broken}
 use Rattle.layout_lint.proofs.NodeLaws.{node_kept, node_broken, rows_read}
-use Rattle.layout_lint.proofs.RuleLaws.{node_rule}
+use Rattle.layout_laws.proofs.RuleRows.{node_rule}
 use Rattle.layout_lint.proofs.node.header_at.Goals as goal
 
 pub returns-in-Ok-clause-rows : goal.returns-in-Ok-clause-rows

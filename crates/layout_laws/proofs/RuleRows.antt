@@ -8,7 +8,7 @@ use Rattle.adf_format.specs.FirstFault.{header_rows, free_table_rows, node_rows,
 use Rattle.adf_model.proofs.Basics.{and_parts}
 
 -- whether each of some rules is one of a layout
-abbrev are_rules : List Row → Bool
+abbrev pub are_rules : List Row → Bool
 are_rules [] = true
 are_rules (r ∷ rows) = nat_le 1 r.fault.rule && nat_le r.fault.rule 30 && are_rules rows
 
@@ -21,7 +21,7 @@ rule_of n h = let both = and_parts (nat_le 1 n) (nat_le n 30) h in (low n both.0
     high : (n : ℕ) → nat_le n 30 ≡ true → n ≤ 30
     high n h = grind (arith, nat_tests)
 
-first_is : (rows : List Row) (f : Fault) → are_rules rows ≡ true → first_broken rows ≡ Some f → IsRule f.rule
+pub first_is : (rows : List Row) (f : Fault) → are_rules rows ≡ true → first_broken rows ≡ Some f → IsRule f.rule
 first_is [] f are e = cc
 first_is (r ∷ rows) f are e = let parts = and_parts (nat_le 1 r.fault.rule && nat_le r.fault.rule 30) (are_rules rows) are in by_test r.kept e parts.0 (first_is rows f parts.1)
   where
