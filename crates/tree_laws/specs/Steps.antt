@@ -10,7 +10,7 @@ use Rattle.adf_format.specs.Placement.{Placement, Heap, extent}
 use Rattle.adf_format.specs.LaysOut.{LaysOut, AreGapsInOrder, ThreadsFreeChunks}
 use Rattle.adf_format.specs.HeapBytes.{MovesEnd, KeepsFillers}
 use Rattle.tree_laws.specs.Holding.{Holds, Rebuilds, MovesHeap, ChangesIn}
-use Rattle.tree_laws.specs.Leaving.{Leaves, Spares}
+use Rattle.tree_laws.specs.Leaving.{Leaves}
 
 -- a layout is a file in which nothing is taken
 abbrev pub LayoutsHold : Type 0
@@ -68,20 +68,6 @@ TakenIsFree =
     → ((b : ℕ) → 0 < cover ranges b → 0 < cover taken b) → Holds new tree p taken
 
 -- ---- what they leave
-
--- a move of the heap leaves all parts
-abbrev pub HeapLeaves : Type 0
-HeapLeaves =
-    (ranges : List Extent) (tree : Tree) (p q : Placement) (taken kept : List Extent) (old new : List ℕ)
-    → Holds old tree p taken → MovesHeap ranges tree p q kept old new → Leaves [] [] tree.wide p q old new
-
--- nodes that change leave what they spare
-abbrev pub NodesLeave : Type 0
-NodesLeave =
-    (ranges : List Extent) (touched : List ℕ) (except : List Extent) (shaped : List ℕ)
-    (tree after : Tree) (p q : Placement) (taken kept : List Extent) (old new : List ℕ)
-    → Holds old tree p taken → Rebuilds ranges touched tree after p q taken kept old new
-    → Spares ranges touched except shaped tree.wide p q old new → Leaves except shaped tree.wide p q old new
 
 -- steps one after another leave what each of them leaves
 abbrev pub StepsLeave : Type 0

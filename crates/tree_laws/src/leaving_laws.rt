@@ -1,16 +1,13 @@
 //! What each step of an edit leaves as it was: parts with their bytes, the head, dimensions, and the bytes behind the end.
 
-ghost use Rattle.tree_laws.specs.Steps.{HeapLeaves, NodesLeave, StepsLeave, MoreLeaves};
+ghost use Rattle.tree_laws.specs.Steps.{StepsLeave, MoreLeaves};
 ghost use Rattle.tree_laws.specs.Moving.{LongerLeaves};
 ghost use Rattle.tree_laws.specs.LeavingSteps.{LeavesBySparing, TakeLeaves, TakenLeaves, GiftsLeave, DataLeaves, DeletionLeaves, JoinLeaves, TableJoinLeaves};
 ghost use Rattle.tree_laws.specs.Parting.{SameParts, NewParts, TableParts, ErasedParts, PartsGoOn, MorePart};
 ghost use Rattle.tree_laws.specs.Tails.{TailStays, TailsGoOn, WrittenTail, TakenTail, GivenTail, EndsRise, OneMoreTail};
 
-/// The steps of an edit leave the parts that they do not touch: moves of the heap all of them, nodes that
-/// change all but those excepted, and steps one after another what each of them leaves.
+/// Steps one after another leave what each of them leaves, and more may be excepted.
 pub fn steps_leave_parts()
-    ensures heap { HeapLeaves }
-    ensures nodes { NodesLeave }
     ensures steps { StepsLeave }
     ensures more { MoreLeaves }
 {}

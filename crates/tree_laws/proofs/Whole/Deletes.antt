@@ -13,6 +13,7 @@ use Rattle.adf_format.specs.Tiles.{end_of}
 use Rattle.adf_format.specs.Placement.{Placement, NodeParts, TablePart, extent, parts_of, extents_of, node_extents, table_extents}
 use Rattle.adf_format.specs.LaysOut.{LaysOut}
 use Rattle.adf_format.specs.HeapRule.{after_gives}
+use Rattle.adf_format.proofs.BehindEnd.{AllLong}
 use Rattle.adf_format.proofs.HeapSteps.{cover-append}
 use Rattle.adf_model.specs.declared.tree.Edit.{Edit}
 use Rattle.adf_model.specs.declared.tree.NodeId.{NodeId}
@@ -22,7 +23,7 @@ use Rattle.adf_model.proofs.Basics.{not_there, same_Some}
 use Rattle.adf_model.proofs.Keeping.MoveKeeps.{among_live}
 use Rattle.adf_model.proofs.Creation.PartExtents.{node_of}
 use Rattle.tree_laws.specs.Holding.{Holds}
-use Rattle.tree_laws.specs.MidEdit.{IsMidEdit, Puts, GivesAll}
+use Rattle.tree_laws.specs.MidEdit.{IsMidEdit, Puts}
 use Rattle.tree_laws.specs.Plans.{plan_deleted}
 use Rattle.tree_laws.specs.Spared.{IsSpared, AreSpared, KeepsPlaces, IsEditWhole}
 use Rattle.tree_laws.specs.Tables.{ClosesUp}
@@ -38,11 +39,11 @@ use Rattle.tree_laws.proofs.Whole.Texts.{puts_two}
 use Rattle.tree_laws.proofs.Whole.Spares.{both_spared, each_spared, gone_spared, header_of, list_part}
 use Rattle.tree_laws.proofs.Whole.Joins.{fields_spared, entry_spared, list_has_header, list_has_table}
 
-module _ (limit : ℕ) (writable : Bool) (old a middle new : List ℕ) (tree after : Tree) (p : Placement) (node : NodeId) (parent i : ℕ) (at : NodeParts) (t : TablePart)
+module _ (limit : ℕ) (writable : Bool) (old a middle : List ℕ) (tree after : Tree) (p : Placement) (node : NodeId) (parent i : ℕ) (at : NodeParts) (t : TablePart)
     (l : LaysOut old tree p) (made : file_step writable tree (Edit.Delete node) ≡ Ok after) (above : parent_of tree node.serial ≡ Some parent) (listed : slice_get (children_at tree parent) i ≡ Some node.serial)
     (placed : parts_of p parent ≡ Some at) (has : at.table ≡ Some t)
     (v : Puts ExtentKind.SubNodes (t.place + 16 + 44 * i) (44 * (length (children_at tree parent) - suc i)) (field old (t.place + 16 + 44 * (i + 1)) (44 * (length (children_at tree parent) - suc i))) old a)
-    (w : Puts ExtentKind.Node (at.header + 68) 8 (hex_text 8 (length (children_at tree parent) - 1)) a middle) (g : GivesAll (plan_deleted after p).given p.heap middle new) where
+    (w : Puts ExtentKind.Node (at.header + 68) 8 (hex_text 8 (length (children_at tree parent) - 1)) a middle) where
   abbrev edit : Edit
   edit = Edit.Delete node
 
@@ -55,16 +56,16 @@ module _ (limit : ℕ) (writable : Bool) (old a middle new : List ℕ) (tree aft
   abbrev count : ℕ
   count = length (children_at tree parent)
 
-  abbrev given : List Extent
+  abbrev pub given : List Extent
   given = (plan_deleted after p).given
 
-  abbrev r : Placement
+  abbrev pub r : Placement
   r = (plan_deleted after p).placed
 
-  abbrev q : Placement
+  abbrev pub q : Placement
   q = after_gives r given
 
-  abbrev ranges : List Extent
+  abbrev pub ranges : List Extent
   ranges = closing_ranges at t count i ++ given
 
   h : Holds old tree p []
@@ -76,21 +77,20 @@ module _ (limit : ℕ) (writable : Bool) (old a middle new : List ℕ) (tree aft
   closes : ClosesUp at.header t.place count i old a middle
   closes = record { entries = v.writes; counted = w.writes }
 
-  in_list : i < count
+  pub in_list : i < count
   in_list = slice_get_within (children_at tree parent) i node.serial listed
 
   fits : count ≤ t.entries
   fits = room old a middle tree after p [] node parent i at t h applied above listed placed has closes
 
-  joined : IsMidEdit ranges p old after r (given ++ []) middle
+  pub taken : AllLong given × Holds middle after r (given ++ [])
+  taken = deleted_are_taken old a middle tree after p [] node parent i at t h applied above listed placed has closes
+
+  pub joined : IsMidEdit ranges p old after r (given ++ []) middle
   joined =
-      let x = deleted_are_taken old a middle tree after p [] node parent i at t h applied above listed placed has closes in
-      mid_switches ranges p old tree after p r [] (given ++ []) (extent ExtentKind.SubNodes (t.place + 16 + 44 * i) (44 * (count - suc i)) ∷ extent ExtentKind.Node (at.header + 68) 8 ∷ []) old middle (mid_begins ranges tree p old l) x.1 refl (puts_two v w)
+      mid_switches ranges p old tree after p r [] (given ++ []) (extent ExtentKind.SubNodes (t.place + 16 + 44 * i) (44 * (count - suc i)) ∷ extent ExtentKind.Node (at.header + 68) 8 ∷ []) old middle (mid_begins ranges tree p old l) (let x = taken in x.1) refl (puts_two v w)
       (λ k some. let s = cover-append (closing_ranges at t count i) given k in omega (arith, s, some))
       (λ k some. let s = cover-append (closing_ranges at t count i) given k in let e = cover-append given [] k in omega (arith, s, some, e))
-
-  ended : IsMidEdit ranges p old after q [] new
-  ended = let x = deleted_are_taken old a middle tree after p [] node parent i at t h applied above listed placed has closes in mid_gives ranges p old after r given [] middle new x.0 joined g
 
   -- ---- what is touched
 
@@ -127,7 +127,7 @@ module _ (limit : ℕ) (writable : Bool) (old a middle new : List ℕ) (tree aft
           let gone : parts_of q n.0 ≡ None = erased_at (λ j. not (is_live after j)) p.parts n.0 ∙ ap (λ (o : Option Node). if not (is_some o) then None else parts_of p n.0) ((deleted_in_its_tree tree after node h.is_tree applied).1 n.0 f.1) in
           gone_spared touched tree done p q old l n.0 n.1 f.0 x b gone n.3 (in_gone n.0 n.1 x f.0 f.1 n.3) low high
 
-  spared : AreSpared ranges touched tree done p q
+  pub spared : AreSpared ranges touched tree done p q
   spared =
       both_spared touched tree done p q (closing_ranges at t count i) given
       (both_spared touched tree done p q (extent ExtentKind.Node (at.header + 68) 8 ∷ []) (extent ExtentKind.SubNodes (t.place + 16 + 44 * i) (44 * (count - suc i)) ∷ [])
@@ -140,7 +140,7 @@ module _ (limit : ℕ) (writable : Bool) (old a middle new : List ℕ) (tree aft
       has_header : Contains touched (header_of tree.wide at)
       has_header = in_lists (header_of tree.wide at) (list_has_header tree.wide p parent at placed)
 
-  places : KeepsPlaces touched tree.wide p q
+  pub places : KeepsPlaces touched tree.wide p q
   places = record {
     parts = λ e live free.
         let n = node_of tree.wide p.parts e live in
@@ -151,9 +151,13 @@ module _ (limit : ℕ) (writable : Bool) (old a middle new : List ℕ) (tree aft
     tables = λ serial from to there last. inl (ap (λ (x : NodeParts). x.table) (same_Some to from (sym (erased_was (λ j. not (is_live after j)) p.parts serial to last) ∙ there)));
   }
 
-  pub delete_whole : IsEditWhole limit writable edit tree p after q old new
-  delete_whole = mid_ends limit writable edit tree after p q ranges old new l made refl ended spared places
+  -- and whatever gives what was taken, the deletion is whole
+  pub delete_ends : (new : List ℕ) → IsMidEdit ranges p old after q [] new → IsEditWhole limit writable edit tree p after q old new
+  delete_ends new ended = mid_ends limit writable edit tree after p q ranges old new l made refl ended spared places
 
 pub delete_is_whole : DeleteIsWhole
 delete_is_whole limit writable old a middle new tree after p node parent i at t l made above listed placed has v w g =
-    delete_whole limit writable old a middle new tree after p node parent i at t l made above listed placed has v w g
+    let all = joined limit writable old a middle tree after p node parent i at t l made above listed placed has v w in
+    let x = taken limit writable old a middle tree after p node parent i at t l made above listed placed has v w in
+    delete_ends limit writable old a middle tree after p node parent i at t l made above listed placed has v w new
+    (mid_gives (closing_ranges at t (length (children_at tree parent)) i ++ (plan_deleted after p).given) p old after (plan_deleted after p).placed (plan_deleted after p).given [] middle new x.0 all g)

@@ -1,11 +1,5 @@
-use Rattle.tree_laws.proofs.Leaving.LeavingLaws.{heap_leaves, nodes_leave, steps_leave, leaves_more}
+use Rattle.tree_laws.proofs.Leaving.LeavingLaws.{steps_leave, leaves_more}
 use Rattle.tree_laws.proofs.leaving_laws.steps_leave_parts.Goals as goal
-
-pub returns-clause-heap : goal.returns-clause-heap
-returns-clause-heap c = heap_leaves
-
-pub returns-clause-nodes : goal.returns-clause-nodes
-returns-clause-nodes c = nodes_leave
 
 pub returns-clause-steps : goal.returns-clause-steps
 returns-clause-steps c = steps_leave
