@@ -1,16 +1,16 @@
 -- A node that stands in ranges that were taken joins the children of another, in an unused entry of its table.
-use Rattle.std.proofs.Common.{◌≡◌, ◌≢◌, ◌⊎◌, inl, inr, ℕ, suc, refl, sym, ◌∙◌, ap, subst, arith, List, [], ◌∷◌, ◌++◌, length, length-append, ◌+◌, ◌-◌, ◌*◌, ◌^◌, ◌<◌, ◌≤◌, Bool, true, false}
+use Rattle.std.proofs.Common.{◌≡◌, ◌≢◌, ◌⊎◌, inl, inr, ℕ, suc, refl, sym, ◌∙◌, ap, subst, arith, List, [], ◌∷◌, ◌++◌, length, length-append, ◌+◌, ◌-◌, ◌*◌, ◌^◌, ◌<◌, ◌≤◌, true}
 use Rattle.std.proofs.lemmas.Bool.Decides.{eqb_tells}
 use Rattle.std.proofs.lemmas.List.{map-append}
 use Rattle.std.proofs.lemmas.Option.{slice_get_within}
 use Rattle.std.proofs.Math.Seq.{map-set_same, set-get_or}
-use Rattle.std.specs.Prelude.{Option, Some, None, slice_set, is_some, option_map, ◌==◌, ◌||◌}
+use Rattle.std.specs.Prelude.{Option, Some, None, slice_set, is_some, option_map}
 use Rattle.adf_format.specs.declared.types.Extent.{Extent}
 use Rattle.adf_format.specs.declared.types.ExtentKind.{ExtentKind}
 use Rattle.adf_format.specs.Hex.{hex_text, hex_value}
 use Rattle.adf_format.specs.Pointer.{To}
 use Rattle.adf_format.specs.Fields.{field, text_field}
-use Rattle.adf_format.specs.Tree.{Tree, Node, IsTree, node_at, is_among, children_of}
+use Rattle.adf_format.specs.Tree.{Tree, Node, IsTree, node_at, children_of}
 use Rattle.adf_format.specs.Tiles.{cover}
 use Rattle.adf_format.specs.Parts.{SpellsNode, SpellsTable, SpellsEntry, HasPointer, node_length, table_length}
 use Rattle.adf_format.specs.Placement.{Placement, NodeParts, TablePart, parts_of, extent, extents_of, node_extents, live_extents, head_extents, all_extents, table_extents, chunk_table_extents, chunk_extents}
@@ -29,17 +29,14 @@ use Rattle.adf_model.specs.Edits.{with_new, given_children}
 use Rattle.adf_model.proofs.Basics.{same_Some}
 use Rattle.adf_model.proofs.Creation.CreatedNodes.{at_new, at_set, at_other, there_inside, children_stay, names_now, parent_after, tree_after, placed_after, as_many}
 use Rattle.adf_model.proofs.Creation.CreatedParts.{counted, pointer_same}
-use Rattle.adf_model.proofs.Creation.PartsApart.{range_in, range_within, all_apart, cover_all, cover_part, cover_two, cover_set, cover_last}
+use Rattle.adf_model.proofs.Creation.PartsApart.{range_in, range_within, all_apart, cover_all, cover_two, cover_set, cover_last}
 use Rattle.tree_laws.specs.Holding.{Holds, ChangesIn, MeetsNothing}
 use Rattle.tree_laws.specs.NodeJoin.{NodeJoins, with_parts_of_new}
+use Rattle.tree_laws.proofs.Tables.OwnParts.{least, data_parts, own_live as live_part, own_with, apart_from, one_of_two}
 use Rattle.tree_laws.proofs.Holding.Steps.{within, keeps_but, once, rebuilt}
 use Rattle.tree_laws.proofs.Holding.OwnRanges.{out, two_written}
 use Rattle.tree_laws.proofs.Tables.TableReplaced.{few_dims}
 use Rattle.tree_laws.proofs.Edits.NewNode.{node_reach, node_stays}
-
-least : (wide : Bool) → 246 ≤ node_length wide
-least false = omega arith
-least true = omega arith
 
 module _ (old middle new : List ℕ) (tree : Tree) (p : Placement) (taken kept : List Extent) (s : ℕ) (parent child : Node) (from parts : NodeParts) (t : TablePart) (h : Holds old tree p taken)
     (here : node_at tree s ≡ Some parent) (stands : parts_of p s ≡ Some from) (has : from.table ≡ Some t) (free : length parent.children < t.entries) (few : suc (length parent.children) < 16 ^ 8)
@@ -68,22 +65,17 @@ module _ (old middle new : List ℕ) (tree : Tree) (p : Placement) (taken kept :
   inside = there_inside p.parts s from stands
 
   abbrev rest : List Extent
-  rest = chunk_table_extents from.chunk_table (length from.chunks) ++ chunk_extents from.chunks
+  rest = data_parts from
 
   -- the node's own extents: its header, its table and its data
   own_split : (b : ℕ) → cover (node_extents tree.wide from) b ≡ in_range from.header (node_length tree.wide) b + (in_range t.place (table_length t.entries) b + cover rest b)
   own_split b =
-      let e = cover-append (extent ExtentKind.Node from.header (node_length tree.wide) ∷ table_extents from.table ++ chunk_table_extents from.chunk_table (length from.chunks)) (chunk_extents from.chunks) b in
-      let f = cover-append (table_extents from.table) (chunk_table_extents from.chunk_table (length from.chunks)) b in
-      let k = cover-append (chunk_table_extents from.chunk_table (length from.chunks)) (chunk_extents from.chunks) b in
+      let e = own_with tree.wide from from.table b in
       let g : cover (table_extents from.table) b ≡ in_range t.place (table_length t.entries) b + 0 = ap (λ (o : Option TablePart). cover (table_extents o) b) has in
-      omega (arith, e, f, k, g)
+      omega (arith, e, g)
 
   own_live : (b : ℕ) → cover (node_extents tree.wide from) b ≤ cover (live_extents tree.wide p) b
-  own_live b =
-      let c = cover_part (extents_of tree.wide) p.parts s b inside in
-      let same : cover (extents_of tree.wide (parts_of p s)) b ≡ cover (node_extents tree.wide from) b = ap (λ (o : Option NodeParts). cover (extents_of tree.wide o) b) stands in
-      omega (arith, c, same)
+  own_live b = live_part tree.wide p s from stands b
 
   -- what is written lies in the header and in the table
   in_own : (b : ℕ) → cover ranges b ≤ in_range from.header (node_length tree.wide) b + in_range t.place (table_length t.entries) b
@@ -286,44 +278,10 @@ module _ (old middle new : List ℕ) (tree : Tree) (p : Placement) (taken kept :
         let l = live_now b in
         let z = node_reach old tree p child parts whole b (omega (arith, x, le)) in
         omega (arith, none, all, l, z);
-    others = λ k m ms unheld e f. other k m ms (apart_from k unheld) e f;
-    those = λ k m ms among e f. that k m ms (one_of_two k among) e f;
+    others = λ k m ms unheld e f. other k m ms (apart_from s (length tree.nodes) k unheld) e f;
+    those = λ k m ms among e f. that k m ms (one_of_two s (length tree.nodes) k among) e f;
   })
     where
-      apart_from : (k : ℕ) → is_among (s ∷ length tree.nodes ∷ []) k ≡ false → (k ≢ s) × (k ≢ length tree.nodes)
-      apart_from k e = (λ same. clash_first (eqb_tells s k) same, λ same. clash_second (eqb_tells (length tree.nodes) k) same)
-        where
-          clash_first : (((s == k) ≡ true) × (s ≡ k)) ⊎ (((s == k) ≡ false) × (s ≢ k)) → k ≡ s → ⊥
-          clash_first (inl t) same = both (s == k) ((length tree.nodes) == k) t.0 e
-            where
-              both : (a b : Bool) → a ≡ true → (a || (b || false)) ≡ false → ⊥
-              both true b p q = cc
-              both false b p q = cc
-          clash_first (inr t) same = t.1 (sym same)
-
-          clash_second : (((length tree.nodes == k) ≡ true) × (length tree.nodes ≡ k)) ⊎ (((length tree.nodes == k) ≡ false) × (length tree.nodes ≢ k)) → k ≡ length tree.nodes → ⊥
-          clash_second (inl t) same = both (s == k) ((length tree.nodes) == k) t.0 e
-            where
-              both : (a b : Bool) → b ≡ true → (a || (b || false)) ≡ false → ⊥
-              both true b p q = cc
-              both false true p q = cc
-              both false false p q = cc
-          clash_second (inr t) same = t.1 (sym same)
-
-      one_of_two : (k : ℕ) → is_among (s ∷ length tree.nodes ∷ []) k ≡ true → (k ≡ s) ⊎ (k ≡ length tree.nodes)
-      one_of_two k e = elim (eqb_tells s k) [
-        | inl t ↦ inl (sym t.1)
-        | inr t ↦ elim (eqb_tells (length tree.nodes) k) [
-          | inl u ↦ inr (sym u.1)
-          | inr u ↦ absurd (neither (s == k) (length tree.nodes == k) t.0 u.0 e)
-        ]
-      ]
-        where
-          neither : (a b : Bool) → a ≡ false → b ≡ false → (a || (b || false)) ≡ true → ⊥
-          neither true b p q r = cc
-          neither false true p q r = cc
-          neither false false p q r = cc
-
       other : (k : ℕ) (m : Node) (ms : NodeParts) → (k ≢ s) × (k ≢ length tree.nodes) → node_at after k ≡ Some m → parts_of q k ≡ Some ms
           → (node_at tree k ≡ Some m) × (parts_of p k ≡ Some ms) × MeetsNothing ranges (node_extents tree.wide ms) × SameChildren tree p after q m.children
       other k m ms d e f =

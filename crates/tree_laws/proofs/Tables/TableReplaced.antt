@@ -25,8 +25,9 @@ use Rattle.adf_model.proofs.Writes.Reaches.{stand_reaches}
 use Rattle.adf_model.proofs.Basics.{same_Some, not_true}
 use Rattle.adf_model.proofs.Creation.CreatedNodes.{there_inside}
 use Rattle.adf_model.proofs.Creation.CreatedParts.{counted}
-use Rattle.adf_model.proofs.Creation.PartsApart.{range_in, range_out, range_within, all_apart, cover_all, cover_part, cover_two, cover_set}
+use Rattle.adf_model.proofs.Creation.PartsApart.{range_in, range_out, range_within, all_apart, cover_all, cover_two, cover_set}
 use Rattle.tree_laws.specs.Holding.{Holds, ChangesIn, MeetsNothing}
+use Rattle.tree_laws.proofs.Tables.OwnParts.{least, data_parts, own_live as live_part, own_with as parts_with}
 use Rattle.tree_laws.proofs.Holding.Steps.{within, keeps_but, once, rebuilt}
 use Rattle.tree_laws.proofs.Edits.LabelSet.{written_in}
 use Rattle.adf_model.proofs.Creation.TableText.{used_long, used_says}
@@ -37,10 +38,6 @@ use Rattle.adf_format.proofs.SpelledParts.{length-pointer_text, framed_long, fra
 use Rattle.std.specs.List.{list_all}
 use Rattle.adf_format.specs.Names.{is_rank_of, is_dimension}
 use Rattle.tree_laws.specs.Tables.{TableIsReplaced}
-
-least : (wide : Bool) → 246 ≤ node_length wide
-least false = omega arith
-least true = omega arith
 
 module _ (old new rest : List ℕ) (tree : Tree) (p : Placement) (taken : List Extent) (kind : ExtentKind) (s table entries : ℕ) (parent : Node) (from : NodeParts)
     (h : Holds old tree p (extent kind table (table_length entries) ∷ taken)) (here : node_at tree s ≡ Some parent) (stands : parts_of p s ≡ Some from)
@@ -78,24 +75,17 @@ module _ (old new rest : List ℕ) (tree : Tree) (p : Placement) (taken : List E
   inside = there_inside p.parts s from stands
 
   abbrev stay : List Extent
-  stay = chunk_table_extents from.chunk_table (length from.chunks) ++ chunk_extents from.chunks
+  stay = data_parts from
 
   -- the node's own extents: its header, its table and its data
   own_with : (o : Option TablePart) (b : ℕ) → cover (node_extents tree.wide (record from { table = o })) b ≡ in_range from.header (node_length tree.wide) b + (cover (table_extents o) b + cover stay b)
-  own_with o b =
-      let e = cover-append (extent ExtentKind.Node from.header (node_length tree.wide) ∷ table_extents o ++ chunk_table_extents from.chunk_table (length from.chunks)) (chunk_extents from.chunks) b in
-      let f = cover-append (table_extents o) (chunk_table_extents from.chunk_table (length from.chunks)) b in
-      let k = cover-append (chunk_table_extents from.chunk_table (length from.chunks)) (chunk_extents from.chunks) b in
-      omega (arith, e, f, k)
+  own_with o b = parts_with tree.wide from o b
 
   own_split : (b : ℕ) → cover (node_extents tree.wide from) b ≡ in_range from.header (node_length tree.wide) b + (cover (table_extents from.table) b + cover stay b)
   own_split b = own_with from.table b
 
   own_live : (b : ℕ) → cover (node_extents tree.wide from) b ≤ cover (live_extents tree.wide p) b
-  own_live b =
-      let c = cover_part (extents_of tree.wide) p.parts s b inside in
-      let same : cover (extents_of tree.wide (parts_of p s)) b ≡ cover (node_extents tree.wide from) b = ap (λ (o : Option NodeParts). cover (extents_of tree.wide o) b) stands in
-      omega (arith, c, same)
+  own_live b = live_part tree.wide p s from stands b
 
   -- what is written lies in the header
   in_own : (b : ℕ) → cover ranges b ≤ in_range from.header (node_length tree.wide) b
