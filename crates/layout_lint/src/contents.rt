@@ -105,7 +105,14 @@ fn gather<B: Blocks>(
     for chunk in chunks {
         let payload = chunk.length - (HEAD_LENGTH + TAG_LENGTH) as u64;
         let count = payload.min((into.len() - done) as u64) as usize;
-        read_part(blocks, page, chunk.place + HEAD_LENGTH as u64, into, done, count)?;
+        read_part(
+            blocks,
+            page,
+            chunk.place + HEAD_LENGTH as u64,
+            into,
+            done,
+            count,
+        )?;
         done += count;
     }
     Ok(())

@@ -6,6 +6,6 @@ pub use crate::head::{header_at, length_of, place_of};
 pub use crate::keys::KeySet;
 pub use crate::look::{Next, look};
 pub use crate::node::Met;
-pub use cg_io::Page;
 pub use crate::stack::{Family, child_of, take_next};
 pub use crate::verdict::{Broken, Halt, Span, halt_at};
+pub use cg_io::Page;
