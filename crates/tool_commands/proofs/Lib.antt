@@ -1,5 +1,10 @@
+pub mod CheckLaws
+pub mod CheckedLaws
+pub mod CheckedShelves
 pub mod CopyLaws
+pub mod NamedLaws
 pub mod NumberLaws
+pub mod OpeningLaws
 pub mod SalvageLaws
 pub mod Sessions
 pub mod TwoDevices

@@ -22,7 +22,7 @@ use Rattle.session.specs.declared.session.Ended.{Ended}
 use Rattle.session.specs.declared.session.Ended.TheVariants as ended
 use Rattle.tool_commands.specs.Tool.{Streams, SessionEnds, scene}
 
-unplaced_at : (devices : Devices) (k : ℕ) → device_at (map unplaced devices) k ≡ unplaced (device_at devices k)
+pub unplaced_at : (devices : Devices) (k : ℕ) → device_at (map unplaced devices) k ≡ unplaced (device_at devices k)
 unplaced_at [] k = refl
 unplaced_at (device ∷ devices) zero = refl
 unplaced_at (device ∷ devices) (suc k) = unplaced_at devices k
@@ -30,11 +30,11 @@ unplaced_at (device ∷ devices) (suc k) = unplaced_at devices k
 fell_unplaced : (a b : Device) → NoneFell a b → NoneFell a (unplaced b)
 fell_unplaced a b fell = record { faults = fell.faults; lost = fell.lost; reads = fell.reads; writes = fell.writes }
 
-counts_left : (before now new : Devices) → new ≡ map unplaced now → NoCountFell before now → NoCountFell before new
+pub counts_left : (before now new : Devices) → new ≡ map unplaced now → NoCountFell before now → NoCountFell before new
 counts_left before now new left counts k =
     subst (λ (ds : Devices). NoneFell (device_at before k) (device_at ds k)) (sym left) (subst (NoneFell (device_at before k)) (sym (unplaced_at now k)) (fell_unplaced (device_at before k) (device_at now k) (counts k)))
 
-entry_names : (slots : List SlotState) → names_there (shelf_files slots) ≡ map standing_name slots
+pub entry_names : (slots : List SlotState) → names_there (shelf_files slots) ≡ map standing_name slots
 entry_names [] = refl
 entry_names (slot ∷ slots) = ap (λ (l : List (Option (List ℕ))). name_there (shelf_file slot) ∷ l) (entry_names slots) ∙ ap (λ (o : Option (List ℕ)). o ∷ map standing_name slots) (by_place slot.place)
   where

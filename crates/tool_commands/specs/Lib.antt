@@ -1,4 +1,7 @@
+pub mod Checks
 pub mod Copies
+pub mod Named
+pub mod Openings
 pub mod Pairs
 pub mod Printed
 pub mod Salvages

@@ -1,6 +1,7 @@
 -- What the commands print, how they end, and what they leave.
 use Rattle.std.specs.Prelude.{◌≡◌, ◌≢◌, ℕ, ◌≤◌, ⊤, Bool, true, false, List, [], ◌∷◌, length, map, codes, Some, None, Option, IsSome, is_some, take, if◌then◌else◌, ◌&&◌, not, Result, Ok, Err}
 use Rattle.std.specs.List.{list_all}
+use Rattle.std.specs.Option.{option_map, unwrap_or}
 use Rattle.std.specs.Str.{bytes_eq}
 use Rattle.std.specs.Io.KnownBytes.{Consumes, IsAtEnd}
 use Rattle.adf_model.specs.declared.error.AdfError.{AdfError}
@@ -22,9 +23,14 @@ use Rattle.session.specs.Session.{Scene, HasRun, IsBounded}
 use Rattle.session.specs.Turns.{calls_of, names_behind}
 use Rattle.session.specs.declared.session.Ended.{Ended}
 use Rattle.session.specs.declared.session.Ended.TheVariants as ended
+use Rattle.sids_readings.specs.declared.rule_sets.RuleSet.{RuleSet}
+use Rattle.sids_readings.specs.declared.rule_sets.RuleSet.TheVariants as set
+use Rattle.tool_commands.specs.Checks.{Output, CheckEnds}
 use Rattle.tool_commands.specs.Copies.{CopyEnds}
+use Rattle.tool_commands.specs.Named.{named_files}
 use Rattle.tool_commands.specs.Printed.{line, EndsWith}
 use Rattle.tool_commands.specs.Salvages.{SalvageEnds}
+use Rattle.tool_commands.specs.declared.named_files.NamedFile.{NamedFile}
 use Rattle.tool_commands.specs.declared.status.Status.{Status}
 use Rattle.tool_commands.specs.declared.status.Status.TheVariants as status
 use Rattle.tool_commands.specs.declared.words.Wanted.{Wanted}
@@ -43,10 +49,22 @@ is_file_word word = not (bytes_eq (take 1 word) []) && not (bytes_eq (take 1 wor
 abbrev pub names_device : List SlotState → List ℕ → Bool
 names_device slots word = is_file_word word && is_some (number_in slots word)
 
--- `session FILE..`, with one file or more, each of them on the shelf
-abbrev pub is_session : List (List ℕ) → List SlotState → Bool
-is_session (command ∷ file ∷ files) slots = bytes_eq command (codes "session") && list_all (names_device slots) (file ∷ files)
-is_session words slots = false
+-- the rules by which the command of this name checks
+abbrev pub rules_named : List ℕ → Option RuleSet
+rules_named command =
+    if bytes_eq command (codes "check") then Some set.Check else
+    if bytes_eq command (codes "check4") then Some set.Check4 else None
+
+-- the command over one file or more that has this name: a session over all, or the check of the first
+abbrev pub command_over : List ℕ → List NamedFile → Option Wanted
+command_over command files =
+    if bytes_eq command (codes "session") then Some asks.Session else
+    option_map (λ rules. asks.Check rules files) (rules_named command)
+
+-- `COMMAND FILE..`, with one file or more, each of them on the shelf
+abbrev pub wanted_over : List (List ℕ) → List SlotState → Option Wanted
+wanted_over (command ∷ file ∷ files) slots = if list_all (names_device slots) (file ∷ files) then command_over command (named_files slots (file ∷ files)) else None
+wanted_over words slots = None
 
 -- the number of the device of a file, if the word may name one
 abbrev pub file_number : List SlotState → List ℕ → Option ℕ
@@ -88,10 +106,11 @@ files_wanted words slots = asks.Nothing
 
 -- what the words ask for
 abbrev pub wanted : List (List ℕ) → List SlotState → Wanted
-wanted words slots = if is_session words slots then asks.Session else files_wanted words slots
+wanted words slots = unwrap_or (wanted_over words slots) (files_wanted words slots)
 
--- under a number that is asked for a device stands, under two numbers two devices
+-- under a number that is asked for a device stands, under two numbers two devices; a check is of one file or more
 abbrev pub IsOnShelf : Wanted → List SlotState → Type 0
+IsOnShelf (asks.Check rules files) slots = files ≢ []
 IsOnShelf (asks.Copy version from to) slots = (from ≢ to) × IsSome (device_at slots from) × IsSome (device_at slots to)
 IsOnShelf (asks.Salvage from to) slots = (from ≢ to) × IsSome (device_at slots from) × IsSome (device_at slots to)
 IsOnShelf (asks.Init wide number) slots = IsSome (device_at slots number)
@@ -198,9 +217,20 @@ pub record SessionEnds (how : Ended) (old new : List SlotState) (before now : St
   pub source_later : before.source_faults ≤ now.source_faults
   pub sink_later : before.sink_faults ≤ now.sink_faults
 
+-- ---- checks
+
+-- the output of a run
+abbrev pub output_of : Streams → Output
+output_of streams = record { taken = streams.taken; faults = streams.sink_faults }
+
+-- what is asked for may lack memory before a device is touched: a list of files
+abbrev pub MayLack : Wanted → Type 0
+MayLack (asks.Check rules files) = ⊤
+MayLack other = ⊥
+
 -- ---- all commands
 
--- how a run ends, and what it leaves on the shelf: without right words the usage line; else the fresh file or a report on the device of that number alone, a copy of a file or of its sound part between the devices of two numbers, or a session over all
+-- how a run ends, and what it leaves on the shelf: without right words the usage line; else the fresh file or a report on the device of that number alone, a copy of a file or of its sound part between the devices of two numbers, a check of the first of some files, or a session over all
 abbrev pub RunEnds : Wanted → Status → List SlotState → List SlotState → Streams → Streams → Type 0
 RunEnds asks.Nothing result old new before now = (new ≡ old) × EndsWith status.Usage usage result before.taken now.taken before.sink_faults now.sink_faults × InputStays before now
 RunEnds (asks.Init wide n) result old new before now =
@@ -217,4 +247,5 @@ RunEnds (asks.Salvage from to) result old new before now =
     OnDevices from to (λ source source_after target target_after.
     SalvageEnds result source source_after target target_after before.taken now.taken before.sink_faults now.sink_faults) old new
     × InputStays before now
+RunEnds (asks.Check rules files) result old new before now = CheckEnds rules files result old new (output_of before) (output_of now) × InputStays before now
 RunEnds asks.Session result old new before now = (how : Ended) × (result ≡ session_status how) × SessionEnds how old new before now

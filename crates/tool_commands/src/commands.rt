@@ -1,6 +1,7 @@
 //! The commands.
 
-ghost use Rattle.std.specs.Prelude.{◌≡◌, ◌≢◌, IsSome, map, string_bytes};
+ghost use Rattle.std.specs.Prelude.{◌≡◌, ◌≢◌, [], IsSome, map, string_bytes};
+ghost use Rattle.tool_commands.specs.Checks.{CheckEnds};
 ghost use Rattle.tool_commands.specs.Copies.{CopyEnds};
 ghost use Rattle.tool_commands.specs.Printed.{EndsWith};
 ghost use Rattle.tool_commands.specs.Salvages.{SalvageEnds};
@@ -8,7 +9,9 @@ ghost use Rattle.tool_commands.specs.Tool.{InitEnds, OnDevice, OnDevices, Report
 ghost use Rattle.layout_report.specs.Reports.{Linted, Mapped};
 ghost use Rattle.adf_library.specs.Shelf.{slots_of, device_at, IsShelf, IsWhole};
 
+use crate::checks::check_files;
 use crate::copies::{Copied, copy_file, tell_copy};
+use crate::named_files::NamedFile;
 use crate::pairs::{put_both_back, take_both};
 use crate::printing::ended;
 use crate::salvages::{Salvage, salvage_file, tell_salvage};
@@ -21,6 +24,7 @@ use adf_tree::make_fresh;
 use cg_io::{Device, Sink, Source};
 use layout_report::{Report, lint_file, map_file};
 use session::{Ended, run_session};
+use sids_readings::RuleSet;
 use std::alloc::Global;
 use std::mem::replace;
 
@@ -260,6 +264,34 @@ fn session_on<D: Device, I: Source, O: Sink>(
     how
 }
 
+// The findings of the first of some files of a shelf. Meanwhile an empty shelf stands in its place.
+fn check_on<D: Device, O: Sink>(
+    alloc: Global,
+    set: RuleSet,
+    files: &[NamedFile],
+    shelf: &mut Shelf<D>,
+    output: &mut O,
+) -> Status
+    requires whole { IsWhole shelf.old }
+    requires shelf { IsShelf shelf.old }
+    requires files { files.now ≢ [] }
+    ensures check { CheckEnds set files.now result (slots_of D.state shelf.old)
+        (slots_of D.state shelf.new)
+        (record { taken = O.taken output.old; faults = O.faults output.old })
+        (record { taken = O.taken output.new; faults = O.faults output.new }) }
+    ensures whole { IsWhole shelf.new }
+    ensures shelf { IsShelf shelf.new }
+{
+    let held = replace(shelf, Shelf::new(alloc));
+    let Ok(made) = Library::new(alloc, held) else {
+        unreachable!()
+    };
+    let mut calls = made;
+    let status = check_files(alloc, set, &mut calls, files, output);
+    *shelf = calls.finish();
+    status
+}
+
 fn say_usage<O: Sink>(output: &mut O) -> Status
     ensures { EndsWith Status.Usage usage result (O.taken output.old) (O.taken output.new)
         (O.faults output.old) (O.faults output.new) }
@@ -294,13 +326,17 @@ pub fn run_on<D: Device, I: Source, O: Sink>(
     ensures whole { IsWhole shelf.new }
     ensures shelf { IsShelf shelf.new }
 {
-    match read_words(words, shelf) {
+    let Ok(asked) = read_words(alloc, words, shelf) else {
+        return Status::Memory;
+    };
+    match asked {
         Wanted::Nothing => say_usage(output),
         Wanted::Init { wide, number } => init_on(wide, number, shelf, output),
         Wanted::Lint(number) => lint_on(alloc, number, shelf, output),
         Wanted::Map(number) => map_on(alloc, number, shelf, output),
         Wanted::Copy { target, from, to } => copy_on(alloc, target, from, to, shelf, output),
         Wanted::Salvage { from, to } => salvage_on(alloc, from, to, shelf, output),
+        Wanted::Check { set, files } => check_on(alloc, set, files.items(), shelf, output),
         Wanted::Session => session_status_of(session_on(alloc, shelf, input, output)),
     }
 }

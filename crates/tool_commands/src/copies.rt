@@ -57,8 +57,8 @@ pub fn copy_file<D: Device>(alloc: Global, source: D, target: D, version: Target
     }
 }
 
-// The line of a refusal, with its line feed.
-fn refusal_line(alloc: Global, error: AdfError) -> Result<Vec<u8>, AllocError>
+/// The line of a refusal, with its line feed.
+pub fn refusal_line(alloc: Global, error: AdfError) -> Result<Vec<u8>, AllocError>
     requires { NamesRule error }
     ensures { IfOk result (λ line. line.items ≡ copy_line (Err error)) }
 {

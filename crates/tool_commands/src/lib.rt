@@ -3,8 +3,10 @@
 
 #![tactic(auto)]
 
+mod checks;
 mod commands;
 mod copies;
+mod named_files;
 mod pairs;
 mod printing;
 mod salvages;

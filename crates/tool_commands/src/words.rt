@@ -1,16 +1,22 @@
 //! What the words of the command line ask for.
 
-ghost use Rattle.std.specs.Prelude.{◌≡◌, map, string_bytes, IfSome, IsSome};
+ghost use Rattle.std.specs.Prelude.{◌≡◌, map, string_bytes, IfSome, IsSome, IfOk, IsErr};
 ghost use Rattle.std.specs.List.{list_all};
-ghost use Rattle.tool_commands.specs.Tool.{IsOnShelf, command_between, command_on, file_number, is_file_word, is_session, names_device, pair_wanted, files_wanted, wanted};
+ghost use Rattle.std.specs.Option.{unwrap_or};
+ghost use Rattle.tool_commands.specs.Tool.{IsOnShelf, MayLack, command_between, command_on, command_over, file_number, is_file_word, names_device, pair_wanted, files_wanted, rules_named, wanted, wanted_over};
+ghost use Rattle.tool_commands.specs.Named.{named_files};
 ghost use Rattle.adf_library.specs.Shelf.{slots_of, device_at, IsShelf, IsWhole};
 
+use crate::named_files::{NamedFile, named_files};
+use adf_format::Listing;
 use adf_library::Shelf;
 use adf_repack::Target;
 use cg_io::Device;
+use sids_readings::RuleSet;
+use std::alloc::{AllocError, Global};
 
 /// What the words of the command line ask for.
-#[derive(Clone, Copy)]
+#[derive(Drop)]
 pub enum Wanted {
     /// They are not right.
     Nothing,
@@ -24,6 +30,11 @@ pub enum Wanted {
     Copy { target: Target, from: u32, to: u32 },
     /// A packed copy of the sound part of the file of one device into another device.
     Salvage { from: u32, to: u32 },
+    /// The findings of the first of some files by a set of rules.
+    Check {
+        set: RuleSet,
+        files: Listing<NamedFile>,
+    },
     /// A session over the files of the shelf.
     Session,
 }
@@ -157,26 +168,84 @@ fn are_on<D: Device>(shelf: &Shelf<D>, words: &[String]) -> bool
     true
 }
 
-// Whether the words are `session FILE..`.
-fn asks_session<D: Device>(words: &[String], shelf: &Shelf<D>) -> bool
+// The command over one file or more that has this name.
+fn command_over<D: Device>(
+    alloc: Global,
+    command: &str,
+    files: &[String],
+    shelf: &Shelf<D>,
+) -> Result<Option<Wanted>, AllocError>
     requires { IsShelf shelf.now }
-    ensures { result ≡ is_session (map string_bytes words.now) (slots_of D.state shelf.now) }
+    ensures wanted { IfOk result (λ asked. asked
+        ≡ command_over command.now (named_files (slots_of D.state shelf.now)
+        (map string_bytes files.now))) }
+    ensures lacks { IsErr result → MayLack (unwrap_or (command_over command.now
+        (named_files (slots_of D.state shelf.now) (map string_bytes files.now))) Wanted.Nothing) }
 {
-    match words {
-        [] | [_] => false,
-        [command, files @ ..] => command.as_str() == "session" && are_on(shelf, files),
+    if command == "session" {
+        return Ok(Some(Wanted::Session));
+    }
+    let Some(set) = rules_named(command) else {
+        return Ok(None);
+    };
+    let files = named_files(alloc, shelf, files)?;
+    Ok(Some(Wanted::Check { set, files }))
+}
+
+// The rules by which the command of this name checks.
+fn rules_named(command: &str) -> Option<RuleSet>
+    ensures { result ≡ rules_named command.now }
+{
+    if command == "check" {
+        Some(RuleSet::Check)
+    } else if command == "check4" {
+        Some(RuleSet::Check4)
+    } else {
+        None
     }
 }
 
-/// What the words ask for, by the names that stand on the shelf.
-pub fn read_words<D: Device>(words: &[String], shelf: &Shelf<D>) -> Wanted
+// What is wanted where the words are those of a command over one file or more.
+fn wanted_over<D: Device>(
+    alloc: Global,
+    words: &[String],
+    shelf: &Shelf<D>,
+) -> Result<Option<Wanted>, AllocError>
+    requires { IsShelf shelf.now }
+    ensures wanted { IfOk result (λ asked. asked ≡ wanted_over (map string_bytes words.now)
+        (slots_of D.state shelf.now)) }
+    ensures lacks { IsErr result → MayLack (unwrap_or (wanted_over (map string_bytes words.now)
+        (slots_of D.state shelf.now)) Wanted.Nothing) }
+{
+    match words {
+        [] | [_] => Ok(None),
+        [command, files @ ..] => {
+            if are_on(shelf, files) {
+                command_over(alloc, command.as_str(), files, shelf)
+            } else {
+                Ok(None)
+            }
+        }
+    }
+}
+
+/// What the words ask for, by the names that stand on the shelf. It is refused only for want of memory
+/// to list the files of a check.
+pub fn read_words<D: Device>(
+    alloc: Global,
+    words: &[String],
+    shelf: &Shelf<D>,
+) -> Result<Wanted, AllocError>
     requires whole { IsWhole shelf.now }
     requires shelf { IsShelf shelf.now }
-    ensures wanted { result ≡ wanted (map string_bytes words.now) (slots_of D.state shelf.now) }
-    ensures stands { IsOnShelf result (slots_of D.state shelf.now) }
+    ensures wanted { IfOk result (λ asked. asked
+        ≡ wanted (map string_bytes words.now) (slots_of D.state shelf.now)) }
+    ensures stands { IfOk result (λ asked. IsOnShelf asked (slots_of D.state shelf.now)) }
+    ensures lacks { IsErr result
+        → MayLack (wanted (map string_bytes words.now) (slots_of D.state shelf.now)) }
 {
-    if asks_session(words, shelf) {
-        return Wanted::Session;
+    match wanted_over(alloc, words, shelf)? {
+        Some(asked) => Ok(asked),
+        None => Ok(files_wanted(words, shelf)),
     }
-    files_wanted(words, shelf)
 }
