@@ -3,7 +3,7 @@ use Rattle.std.specs.Prelude.{IfSome}
 use Rattle.adf_model.proofs.Basics.{same_Some}
 use Rattle.std.proofs.Common.{◌≡◌, ◌≢◌, ◌⊎◌, inl, inr, ℕ, ◌^◌, ◌<◌, List, [], ◌∷◌, length, Option, Some, None, Result, Ok, Err, Bool, refl, sym, ◌∙◌, ap, subst, arith}
 use Rattle.std.proofs.lemmas.List.{length-append}
-use Rattle.std.specs.Io.KnownBytes.{Consumes}
+use Rattle.std.specs.Io.KnownBytes.{Appends, Consumes}
 use Rattle.adf_library.specs.Shelf.{SlotState, device_at, with_device}
 use Rattle.adf_model.specs.Counts.{Rose}
 use Rattle.adf_model.specs.declared.error.AdfError.{AdfError}
@@ -31,14 +31,30 @@ use Rattle.adf_salvage.specs.Salvages.{IsSalvaged, IsSalvageRefusal}
 use Rattle.adf_salvage.specs.declared.list.Left.{Left}
 use Rattle.tool_commands.specs.Salvages.{IsSalvage, TellsSalvage, saved_status, salvage_status, salvage_text}
 use Rattle.tool_commands.specs.declared.salvages.Saved.{Saved}
+use Rattle.std.specs.List.{list_any}
+use Rattle.std.specs.Prelude.{if◌then◌else◌}
+use Rattle.adf_library.specs.Library.{shelf_devices, shelf_files}
+use Rattle.adf_model.specs.Slots.{Files, Devices, IsTold}
+use Rattle.adf_model.specs.Steps.{SomeFault}
+use Rattle.call_script.specs.Replies.{refusal_text}
+use Rattle.cgns_check.specs.Checked.{Checks}
+use Rattle.cgns_check.specs.declared.fault.CheckFault.{CheckFault}
+use Rattle.cgns_check.specs.declared.fault.CheckFault.TheVariants as fault
+use Rattle.session.specs.Printed.{AppendsPart}
+use Rattle.sids_readings.specs.RuleSets.{rules_of}
+use Rattle.sids_rules.specs.Rules.{Rule}
+use Rattle.tool_commands.specs.Checks.{ChecksFile, EndsAnswer, EndsBehind, Output, closed_text, found_status, status_over}
+use Rattle.tool_commands.specs.Openings.{Outcome, AreOpened, Opens, first_number, is_fault, is_refused}
+use Rattle.tool_commands.specs.declared.named_files.NamedFile.{NamedFile}
+use Rattle.tool_laws.specs.Given.GivesCheck.{closed, checked, silent}
 use Rattle.tool_commands.specs.Copies.{IsCopy, Tells, copy_line, copy_status}
-use Rattle.tool_commands.specs.Printed.{EndsWith}
-use Rattle.tool_commands.specs.Tool.{IsOnShelf, OnDevice, OnDevices, Reports, RunEnds, SessionEnds, Streams, init_line, init_status, report_status, session_status}
+use Rattle.tool_commands.specs.Printed.{line, EndsWith}
+use Rattle.tool_commands.specs.Tool.{IsOnShelf, OnDevice, OnDevices, Reports, RunEnds, SessionEnds, Streams, init_line, output_of, init_status, report_status, session_status}
 use Rattle.tool_commands.specs.declared.status.Status.{Status}
 use Rattle.tool_commands.specs.declared.status.Status.TheVariants as status
 use Rattle.tool_commands.specs.declared.words.Wanted.{Wanted}
 use Rattle.tool_commands.specs.declared.words.Wanted.TheVariants as asks
-use Rattle.tool_laws.specs.Given.{IsQuiet, IsDecided, OfDevice, HasTree, GivesFresh, GivesReport, HasNoRoom, HasNoCopy, GivesCopy, HasWholePart, HasNoWholePart, GivesSalvage, GivesSession, Gives}
+use Rattle.tool_laws.specs.Given.{IsQuiet, IsDecided, OfDevice, HasTree, GivesFresh, GivesReport, HasNoRoom, HasNoCopy, GivesCopy, HasWholePart, HasNoWholePart, GivesSalvage, GivesCheck, GivesSession, Gives}
 use Rattle.tool_laws.specs.Given.HasNoRoom.{long, full, large}
 use Rattle.tool_laws.specs.Given.HasNoWholePart.{lost, roomless, left_out}
 use Rattle.tool_laws.proofs.Devices.{device_put, other_put, quiet_there}
@@ -214,6 +230,51 @@ session_given ended.TooLong result old new before now is s quiet = inr (inr is, 
         let sum = length-append bytes rest in
         omega (arith, whole, sum, many, short)
 
+-- ---- checks
+
+-- where no device failed no fault stands among the openings, so they say no or leave the status as it is
+status_apart : (outcomes : List Outcome) (ended result : Status) → (result ≡ status.DeviceFault → ⊥) → result ≡ status_over outcomes ended → result ≡ (if list_any is_refused outcomes then status.No else ended)
+status_apart outcomes ended result apart is = by_fault (list_any is_fault outcomes) is
+  where
+    by_fault : (b : Bool) → result ≡ (if b then status.DeviceFault else if list_any is_refused outcomes then status.No else ended) → result ≡ (if list_any is_refused outcomes then status.No else ended)
+    by_fault true is = absurd (apart is)
+    by_fault false is = is
+
+no_anyway : (outcomes : List Outcome) (result : Status) → (result ≡ status.DeviceFault → ⊥) → result ≡ status_over outcomes status.No → result ≡ status.No
+no_anyway outcomes result apart is = by_refused (list_any is_refused outcomes) (status_apart outcomes status.No result apart is)
+  where
+    by_refused : (b : Bool) → result ≡ (if b then status.No else status.No) → result ≡ status.No
+    by_refused true is = is
+    by_refused false is = is
+
+module _ (rules : List Rule) (named : List NamedFile) (slots : List SlotState) (result : Status) (before now : Output) (apart : result ≡ status.DeviceFault → ⊥) (quiet : result ≡ status.SinkFault → ⊥) (still : Rose before.faults now.faults → ⊥) where
+  checked_given : (outcomes : List Outcome) (files : Files) (devices after : Devices) (between : Output) → (Rose between.faults now.faults → ⊥) → Opens named outcomes (shelf_files slots) (shelf_devices slots) devices files → AreOpened named outcomes
+      → ChecksFile rules (first_number named) outcomes files devices after result between now → Ends result (GivesCheck rules named slots result)
+  checked_given outcomes files devices after between calm opens opened c = by_answer c.answer c.ends c.told
+    where
+      by_answer : (answer : Result ℕ CheckFault) → EndsAnswer outcomes answer result c.said now → (IsTold files devices → Checks rules files (first_number named) answer between.taken c.said.taken) → Ends result (GivesCheck rules named slots result)
+      by_answer (Ok found) ends told = inr (checked outcomes files devices opens opened found (λ t. (told t).2.0) (status_apart outcomes (found_status found) result apart ends.0))
+      by_answer (Err fault.Memory) ends told = inl ends.0
+      by_answer (Err fault.Sink) ends told = absurd (quiet ends.0)
+      by_answer (Err fault.Read) ends told = by_print ends.1
+        where
+          by_print : ((result ≡ status.DeviceFault) × Appends c.said.taken now.taken (line (refusal_text error.ReadFault))) ⊎ ((result ≡ status.SinkFault) × Rose c.said.faults now.faults × AppendsPart c.said.taken now.taken (line (refusal_text error.ReadFault))) → Ends result (GivesCheck rules named slots result)
+          by_print (inl e) = absurd (apart e.0)
+          by_print (inr e) = absurd (quiet e.0)
+      by_answer (Err (fault.Core error)) (inr ends) told = inl ends.0
+      by_answer (Err (fault.Core error)) (inl ends) told = inr (silent outcomes files devices opens opened (λ t. (told t).2) (no_anyway outcomes result apart (by_print ends.1)))
+        where
+          by_print : ((result ≡ status_over outcomes status.No) × Appends c.said.taken now.taken (line (refusal_text error))) ⊎ ((result ≡ status.SinkFault) × Rose c.said.faults now.faults × AppendsPart c.said.taken now.taken (line (refusal_text error))) → result ≡ status_over outcomes status.No
+          by_print (inl e) = e.0
+          by_print (inr e) = absurd (quiet e.0)
+
+  behind_given : (outcomes : List Outcome) (files : Files) (devices after : Devices) → Opens named outcomes (shelf_files slots) (shelf_devices slots) devices files
+      → EndsBehind rules named outcomes files devices after result before now → Ends result (GivesCheck rules named slots result)
+  behind_given outcomes files devices after opens (EndsBehind.lacks memory same kept) = inl memory
+  behind_given outcomes files devices after opens (EndsBehind.closed first memory same ends) = inr (closed outcomes files devices opens first (no_anyway outcomes result apart (printed_whole (status_over outcomes status.No) (closed_text outcomes named) result before.taken now.taken before.faults now.faults still ends)))
+  behind_given outcomes files devices after opens (EndsBehind.fails opened failed same f) = absurd (quiet failed)
+  behind_given outcomes files devices after opens (EndsBehind.checks opened between takes c) = checked_given outcomes files devices after between (λ rose. still (let low = takes.later in omega (arith, low, rose))) opens opened c
+
 -- ---- all commands
 
 module _ (result : Status) (old new : List SlotState) (before now : Streams) (quiet : IsQuiet old new before now) where
@@ -265,4 +326,10 @@ module _ (result : Status) (old new : List SlotState) (before now : Streams) (qu
   run_given (asks.Salvage from to) on (did, input) = of_devices from to _ (GivesSalvage result) on.0 did
       (λ source source_after target target_after still still_there h. told_salvage source source_after target target_after still still_there h.made result before.taken now.taken before.sink_faults now.sink_faults quiet.sink h.told
       (salvage_given source source_after target target_after still still_there h.made h.salvage))
+  run_given (asks.Check set files) on (ends, input) =
+      behind_given (rules_of set) files old result (output_of before) (output_of now) (λ is. no_fault (ends.fault is)) (λ is. quiet.sink (ends.sink is)) quiet.sink
+      ends.checked.outcomes ends.files ends.checked.opened ends.devices ends.checked.opens ends.checked.ends
+    where
+      no_fault : SomeFault (shelf_devices old) (shelf_devices new) → ⊥
+      no_fault some = quiet.devices some.0 some.1
   run_given asks.Session on (how, is, ends) = session_given how result old new before now is ends quiet

@@ -1,5 +1,6 @@
 -- What a run of the tool gives where nothing fails.
-use Rattle.std.specs.Prelude.{◌≡◌, ◌≢◌, ◌⊎◌, ℕ, ◌^◌, ◌<◌, ◌≤◌, Bool, List, [], length, Option, Some}
+use Rattle.std.specs.Prelude.{◌≡◌, ◌≢◌, ◌⊎◌, ℕ, ◌^◌, ◌<◌, ◌≤◌, Bool, List, [], length, Option, Some, if◌then◌else◌}
+use Rattle.std.specs.List.{list_any}
 use Rattle.adf_format.specs.Checks.{Fault}
 use Rattle.adf_format.specs.FirstFault.{FirstFault, Visit, is_wide}
 use Rattle.adf_format.specs.SoundPart.{IsSoundPart, tree_of}
@@ -7,7 +8,7 @@ use Rattle.adf_format.specs.LaysOut.{LaysOut}
 use Rattle.adf_format.specs.Packed.{packed_length}
 use Rattle.adf_format.specs.Placement.{Placement}
 use Rattle.adf_format.specs.Tree.{Tree}
-use Rattle.adf_library.specs.Library.{shelf_devices}
+use Rattle.adf_library.specs.Library.{shelf_devices, shelf_files}
 use Rattle.adf_library.specs.Shelf.{SlotState, device_at}
 use Rattle.adf_model.specs.Counts.{Rose}
 use Rattle.adf_model.specs.Steps.{NoFault}
@@ -18,7 +19,14 @@ use Rattle.adf_repack.specs.Repacks.{FitsVersion, HasLongDimension, width_for}
 use Rattle.adf_repack.specs.declared.whole.Target.{Target}
 use Rattle.adf_salvage.specs.Parts.{HasNoPart}
 use Rattle.cg_io.specs.Device.{DeviceState}
+use Rattle.adf_model.specs.Slots.{Files, Devices, IsTold}
+use Rattle.sids_readings.specs.RuleSets.{rules_of}
+use Rattle.sids_rules.specs.Findings.{findings_by}
+use Rattle.sids_rules.specs.Rules.{Rule}
+use Rattle.tool_commands.specs.Checks.{found_status}
+use Rattle.tool_commands.specs.Openings.{Outcome, AreOpened, IsFirstClosed, Opens, first_number, is_refused}
 use Rattle.tool_commands.specs.Tool.{Streams}
+use Rattle.tool_commands.specs.declared.named_files.NamedFile.{NamedFile}
 use Rattle.tool_commands.specs.declared.status.Status.{Status}
 use Rattle.tool_commands.specs.declared.status.Status.TheVariants as status
 use Rattle.tool_commands.specs.declared.words.Wanted.{Wanted}
@@ -100,6 +108,21 @@ GivesSalvage result source target = IsDecided result (HoldsNone target.held × T
 abbrev pub GivesSession : Status → Option (List ℕ) → Type 0
 GivesSession result left = ((result ≡ status.Done) ⊎ (result ≡ status.TooLong)) × ((text : List ℕ) → left ≡ Some text → length text < 2 ^ 40 → result ≡ status.Done)
 
+-- ---- checks
+
+-- What a check of the first of some files gives, by how they are opened for reading, each once and in this order, and by how many findings there are.
+pub data GivesCheck (rules : List Rule) (named : List NamedFile) (slots : List SlotState) (result : Status) : Type 0 where
+  -- the first file is refused
+  closed : (outcomes : List Outcome) (files : Files) (devices : Devices) → Opens named outcomes (shelf_files slots) (shelf_devices slots) devices files
+      → IsFirstClosed outcomes → result ≡ status.No → GivesCheck rules named slots result
+  -- it is done where no file is refused and there are no findings
+  checked : (outcomes : List Outcome) (files : Files) (devices : Devices) → Opens named outcomes (shelf_files slots) (shelf_devices slots) devices files → AreOpened named outcomes
+      → (found : ℕ) → (IsTold files devices → found ≡ length (findings_by rules files (first_number named)))
+      → result ≡ (if list_any is_refused outcomes then status.No else found_status found) → GivesCheck rules named slots result
+  -- files that do not tell may be told as refused
+  silent : (outcomes : List Outcome) (files : Files) (devices : Devices) → Opens named outcomes (shelf_files slots) (shelf_devices slots) devices files → AreOpened named outcomes
+      → (IsTold files devices → ⊥) → result ≡ status.No → GivesCheck rules named slots result
+
 -- ---- all commands
 
 -- what the words, the devices and the input give
@@ -110,4 +133,5 @@ Gives (asks.Lint n) slots streams result = OfDevice slots n (GivesReport result)
 Gives (asks.Map n) slots streams result = OfDevice slots n (GivesReport result)
 Gives (asks.Copy version from to) slots streams result = OfDevice slots from (λ source. OfDevice slots to (λ target. GivesCopy version result source target))
 Gives (asks.Salvage from to) slots streams result = OfDevice slots from (λ source. OfDevice slots to (λ target. GivesSalvage result source target))
+Gives (asks.Check set files) slots streams result = GivesCheck (rules_of set) files slots result
 Gives asks.Session slots streams result = GivesSession result streams.left
