@@ -75,7 +75,8 @@ pub(crate) fn put_chunk<S: Space>(
         (S.image space.old)
         (S.image space.new) }
     ensures only { WaitsWhereTold (S.image space.old)
-        (room_of heap.old.work.heap heap.new.work.heap) (S.waiting space.old) (S.waiting space.new) }
+        (room_of heap.old.work.heap heap.new.work.heap)
+        (S.waiting space.old) (S.waiting space.new) }
     ensures end { OnOk result (Both (MovesEnd heap.old.work.heap.end heap.new.work.heap.end)
         (S.image space.old) (S.image space.new)) }
     ensures fillers { OnOk result (Both
@@ -133,7 +134,8 @@ pub(crate) fn put_table<S: Space>(
         (S.image space.old)
         (S.image space.new) }
     ensures only { WaitsWhereTold (S.image space.old)
-        (room_of heap.old.work.heap heap.new.work.heap) (S.waiting space.old) (S.waiting space.new) }
+        (room_of heap.old.work.heap heap.new.work.heap)
+        (S.waiting space.old) (S.waiting space.new) }
     ensures end { OnOk result (Both (MovesEnd heap.old.work.heap.end heap.new.work.heap.end)
         (S.image space.old) (S.image space.new)) }
     ensures fillers { OnOk result (Both

@@ -130,7 +130,8 @@ pub fn put_whole<S: Space>(
         (S.image space.old)
         (S.image space.new) }
     ensures only { WaitsWhereTold (S.image space.old)
-        (room_of heap.old.work.heap heap.new.work.heap) (S.waiting space.old) (S.waiting space.new) }
+        (room_of heap.old.work.heap heap.new.work.heap)
+        (S.waiting space.old) (S.waiting space.new) }
     ensures effect { OnlyReads (S.state space.old) (S.state space.new) }
     ensures waits { OnOk result (how_many (S.waiting space.new)
         ≤ how_many (S.waiting space.old) + (length text.now / 4096 + 12)) }
@@ -187,7 +188,8 @@ pub fn put_part<S: Space>(
         (S.image space.old)
         (S.image space.new) }
     ensures only { WaitsWhereTold (S.image space.old)
-        (room_of heap.old.work.heap heap.new.work.heap) (S.waiting space.old) (S.waiting space.new) }
+        (room_of heap.old.work.heap heap.new.work.heap)
+        (S.waiting space.old) (S.waiting space.new) }
     ensures effect { OnlyReads (S.state space.old) (S.state space.new) }
     ensures waits { OnOk result (how_many (S.waiting space.new)
         ≤ how_many (S.waiting space.old) + (size / 4096 + 12)) }

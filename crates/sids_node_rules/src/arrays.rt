@@ -241,7 +241,8 @@ fn rind_added<C: TreeCalls>(
     ensures only { OnlyAsks (C.files calls.old) (C.devices calls.old)
         (C.devices calls.new) (C.files calls.new) }
     ensures value { IsTold (C.files calls.old) (C.devices calls.old)
-        → IsValueOr (Some (with_rind sizes.now (rind_in index (C.files calls.old) children.now))) result }
+        → IsValueOr (Some (with_rind sizes.now (rind_in index (C.files calls.old) children.now)))
+            result }
     ensures cause { HasAskCause (C.files calls.old) (C.devices calls.old)
         (C.devices calls.new) result }
 {
@@ -312,7 +313,8 @@ fn place_by<C: TreeCalls>(
     ensures only { OnlyAsks (C.files calls.old) (C.devices calls.old)
         (C.devices calls.new) (C.files calls.new) }
     ensures value { IsTold (C.files calls.old) (C.devices calls.old)
-        → IsValueOr (place_of_word (text_of_first (C.files calls.old) (codes "Vertex") first)) result }
+        → IsValueOr (place_of_word (text_of_first (C.files calls.old) (codes "Vertex") first))
+            result }
     ensures cause { HasAskCause (C.files calls.old) (C.devices calls.old)
         (C.devices calls.new) result }
 {

@@ -35,7 +35,8 @@ pub fn breaks_bc_family<C: TreeCalls>(
     ensures only { OnlyAsks (C.files calls.old) (C.devices calls.old)
         (C.devices calls.new) (C.files calls.new) }
     ensures value { IsTold (C.files calls.old) (C.devices calls.old)
-        → IsValueOr (bytes_eq (text_of (node_there (C.files calls.old) at)) (codes "FamilySpecified") && not (has_child (C.files calls.old) at FamilyName)) result }
+        → IsValueOr (bytes_eq (text_of (node_there (C.files calls.old) at))
+            (codes "FamilySpecified") && not (has_child (C.files calls.old) at FamilyName)) result }
     ensures cause { HasAskCause (C.files calls.old) (C.devices calls.old)
         (C.devices calls.new) result }
 {
@@ -144,7 +145,8 @@ fn is_bad_range<C: TreeCalls>(
     ensures only { OnlyAsks (C.files calls.old) (C.devices calls.old)
         (C.devices calls.new) (C.files calls.new) }
     ensures value { IsTold (C.files calls.old) (C.devices calls.old)
-        → IsValueOr (given child (λ child. not (is_point_range index (C.files calls.old) child))) result }
+        → IsValueOr (given child (λ child. not (is_point_range index (C.files calls.old) child)))
+            result }
     ensures cause { HasAskCause (C.files calls.old) (C.devices calls.old)
         (C.devices calls.new) result }
 {
@@ -172,7 +174,8 @@ fn is_bad_list<C: TreeCalls>(
     ensures only { OnlyAsks (C.files calls.old) (C.devices calls.old)
         (C.devices calls.new) (C.files calls.new) }
     ensures value { IsTold (C.files calls.old) (C.devices calls.old)
-        → IsValueOr (given child (λ child. not (is_point_list index (C.files calls.old) child))) result }
+        → IsValueOr (given child (λ child. not (is_point_list index (C.files calls.old) child)))
+            result }
     ensures cause { HasAskCause (C.files calls.old) (C.devices calls.old)
         (C.devices calls.new) result }
 {

@@ -130,7 +130,8 @@ pub fn breaks_rind_data<C: TreeCalls>(
     ensures only { OnlyAsks (C.files calls.old) (C.devices calls.old)
         (C.devices calls.new) (C.files calls.new) }
     ensures value { IsTold (C.files calls.old) (C.devices calls.old)
-        → IsValueOr (not (is_ints_of ((2 * index) ∷ []) (node_there (C.files calls.old) at))) result }
+        → IsValueOr (not (is_ints_of ((2 * index) ∷ []) (node_there (C.files calls.old) at)))
+            result }
     ensures cause { HasAskCause (C.files calls.old) (C.devices calls.old)
         (C.devices calls.new) result }
 {
@@ -149,7 +150,8 @@ pub fn breaks_rind_name<C: TreeCalls>(calls: &mut C, node: NodeId) -> Result<boo
     ensures only { OnlyAsks (C.files calls.old) (C.devices calls.old)
         (C.devices calls.new) (C.files calls.new) }
     ensures value { IsTold (C.files calls.old) (C.devices calls.old)
-        → IsValueOr (not (bytes_eq (node_there (C.files calls.old) node).name (codes "Rind"))) result }
+        → IsValueOr (not (bytes_eq (node_there (C.files calls.old) node).name (codes "Rind")))
+            result }
     ensures cause { HasAskCause (C.files calls.old) (C.devices calls.old)
         (C.devices calls.new) result }
 {
@@ -172,7 +174,8 @@ pub fn breaks_version<C: TreeCalls>(
     ensures only { OnlyAsks (C.files calls.old) (C.devices calls.old)
         (C.devices calls.new) (C.files calls.new) }
     ensures value { IsTold (C.files calls.old) (C.devices calls.old)
-        → IsValueOr (not (count_of CgnsLibraryVersion (children_there (C.files calls.old) at) == 1)) result }
+        → IsValueOr (not (count_of CgnsLibraryVersion (children_there (C.files calls.old) at) == 1))
+            result }
     ensures cause { HasAskCause (C.files calls.old) (C.devices calls.old)
         (C.devices calls.new) result }
 {
@@ -311,7 +314,8 @@ fn are_no_units<C: TreeCalls>(calls: &mut C, at: NodeId) -> Result<bool, AdfErro
     ensures only { OnlyAsks (C.files calls.old) (C.devices calls.old)
         (C.devices calls.new) (C.files calls.new) }
     ensures value { IsTold (C.files calls.old) (C.devices calls.old)
-        → IsValueOr (not (is_array_of C1 (32 ∷ 5 ∷ []) (node_there (C.files calls.old) at))) result }
+        → IsValueOr (not (is_array_of C1 (32 ∷ 5 ∷ []) (node_there (C.files calls.old) at)))
+            result }
     ensures cause { HasAskCause (C.files calls.old) (C.devices calls.old)
         (C.devices calls.new) result }
 {
@@ -330,7 +334,8 @@ fn are_no_exponents<C: TreeCalls>(calls: &mut C, at: NodeId) -> Result<bool, Adf
     ensures only { OnlyAsks (C.files calls.old) (C.devices calls.old)
         (C.devices calls.new) (C.files calls.new) }
     ensures value { IsTold (C.files calls.old) (C.devices calls.old)
-        → IsValueOr (not (is_array_of R4 (5 ∷ []) (node_there (C.files calls.old) at) || is_array_of R8 (5 ∷ []) (node_there (C.files calls.old) at))) result }
+        → IsValueOr (not (is_array_of R4 (5 ∷ []) (node_there (C.files calls.old) at)
+            || is_array_of R8 (5 ∷ []) (node_there (C.files calls.old) at))) result }
     ensures cause { HasAskCause (C.files calls.old) (C.devices calls.old)
         (C.devices calls.new) result }
 {

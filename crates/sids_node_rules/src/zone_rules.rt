@@ -35,7 +35,8 @@ pub fn with_base_rules<C: TreeCalls>(
     ensures only { OnlyAsks (C.files calls.old) (C.devices calls.old)
         (C.devices calls.new) (C.files calls.new) }
     ensures value { IsTold (C.files calls.old) (C.devices calls.old)
-        → IsValueOr (rules ++ held (tests_of_base (base_dimensions (C.files calls.old) at))) result }
+        → IsValueOr (rules ++ held (tests_of_base (base_dimensions (C.files calls.old) at)))
+            result }
     ensures cause { HasAskCause (C.files calls.old) (C.devices calls.old)
         (C.devices calls.new) result }
 {
@@ -139,7 +140,10 @@ fn with_counted_rules<C: TreeCalls>(
     ensures only { OnlyAsks (C.files calls.old) (C.devices calls.old)
         (C.devices calls.new) (C.files calls.new) }
     ensures value { IsTold (C.files calls.old) (C.devices calls.old)
-        → IsValueOr (rules ++ held (tests_of_zone base.now sizes.now (kind_by (C.files calls.old) (first_of ZoneType children.now)) (nat_lt 1 (count_of ZoneType children.now)))) result }
+        → IsValueOr (rules ++ held
+            (tests_of_zone base.now sizes.now
+            (kind_by (C.files calls.old) (first_of ZoneType children.now))
+            (nat_lt 1 (count_of ZoneType children.now)))) result }
     ensures cause { HasAskCause (C.files calls.old) (C.devices calls.old)
         (C.devices calls.new) result }
 {
