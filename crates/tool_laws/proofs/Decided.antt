@@ -32,7 +32,7 @@ use Rattle.adf_salvage.specs.declared.list.Left.{Left}
 use Rattle.tool_commands.specs.Salvages.{IsSalvage, TellsSalvage, saved_status, salvage_status, salvage_text}
 use Rattle.tool_commands.specs.declared.salvages.Saved.{Saved}
 use Rattle.std.specs.List.{list_any}
-use Rattle.std.specs.Prelude.{if◌then◌else◌}
+use Rattle.std.specs.Prelude.{true, false, if◌then◌else◌}
 use Rattle.adf_library.specs.Library.{shelf_devices, shelf_files}
 use Rattle.adf_model.specs.Slots.{Files, Devices, IsTold}
 use Rattle.adf_model.specs.Steps.{SomeFault}
@@ -271,7 +271,7 @@ module _ (rules : List Rule) (named : List NamedFile) (slots : List SlotState) (
   behind_given : (outcomes : List Outcome) (files : Files) (devices after : Devices) → Opens named outcomes (shelf_files slots) (shelf_devices slots) devices files
       → EndsBehind rules named outcomes files devices after result before now → Ends result (GivesCheck rules named slots result)
   behind_given outcomes files devices after opens (EndsBehind.lacks memory same kept) = inl memory
-  behind_given outcomes files devices after opens (EndsBehind.closed first memory same ends) = inr (closed outcomes files devices opens first (no_anyway outcomes result apart (printed_whole (status_over outcomes status.No) (closed_text outcomes named) result before.taken now.taken before.faults now.faults still ends)))
+  behind_given outcomes files devices after opens (EndsBehind.closed first memory same ends) = inr (closed outcomes files devices opens first memory (no_anyway outcomes result apart (printed_whole (status_over outcomes status.No) (closed_text outcomes named) result before.taken now.taken before.faults now.faults still ends)))
   behind_given outcomes files devices after opens (EndsBehind.fails opened failed same f) = absurd (quiet failed)
   behind_given outcomes files devices after opens (EndsBehind.checks opened between takes c) = checked_given outcomes files devices after between (λ rose. still (let low = takes.later in omega (arith, low, rose))) opens opened c
 

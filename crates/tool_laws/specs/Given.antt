@@ -24,7 +24,7 @@ use Rattle.sids_readings.specs.RuleSets.{rules_of}
 use Rattle.sids_rules.specs.Findings.{findings_by}
 use Rattle.sids_rules.specs.Rules.{Rule}
 use Rattle.tool_commands.specs.Checks.{found_status}
-use Rattle.tool_commands.specs.Openings.{Outcome, AreOpened, IsFirstClosed, Opens, first_number, is_refused}
+use Rattle.tool_commands.specs.Openings.{Outcome, AreOpened, HaveMemory, IsFirstClosed, Opens, first_number, is_refused}
 use Rattle.tool_commands.specs.Tool.{Streams}
 use Rattle.tool_commands.specs.declared.named_files.NamedFile.{NamedFile}
 use Rattle.tool_commands.specs.declared.status.Status.{Status}
@@ -114,7 +114,7 @@ GivesSession result left = ((result ≡ status.Done) ⊎ (result ≡ status.TooL
 pub data GivesCheck (rules : List Rule) (named : List NamedFile) (slots : List SlotState) (result : Status) : Type 0 where
   -- the first file is refused
   closed : (outcomes : List Outcome) (files : Files) (devices : Devices) → Opens named outcomes (shelf_files slots) (shelf_devices slots) devices files
-      → IsFirstClosed outcomes → result ≡ status.No → GivesCheck rules named slots result
+      → IsFirstClosed outcomes → HaveMemory outcomes → result ≡ status.No → GivesCheck rules named slots result
   -- it is done where no file is refused and there are no findings
   checked : (outcomes : List Outcome) (files : Files) (devices : Devices) → Opens named outcomes (shelf_files slots) (shelf_devices slots) devices files → AreOpened named outcomes
       → (found : ℕ) → (IsTold files devices → found ≡ length (findings_by rules files (first_number named)))
