@@ -212,8 +212,8 @@ fn is_rind_off<C: TreeCalls>(
         (C.devices calls.new) (C.files calls.new) }
     ensures value { IsTold (C.files calls.old) (C.devices calls.old)
         → IsValueOr (given sizes.now
-            (λ s. not (is_ints_of ((2 * s.index) ∷ []) (node_there (C.files calls.old) at))))
-                result }
+        (λ s. not (is_ints_of ((2 * s.index) ∷ []) (node_there (C.files calls.old) at))))
+        result }
     ensures cause { HasAskCause (C.files calls.old) (C.devices calls.old)
         (C.devices calls.new) result }
 {
@@ -270,9 +270,7 @@ fn with_family_rule<C: TreeCalls>(
     ensures only { OnlyAsks (C.files calls.old) (C.devices calls.old)
         (C.devices calls.new) (C.files calls.new) }
     ensures value { IsTold (C.files calls.old) (C.devices calls.old)
-        → IsValueOr (rules ++ held
-            ((33, bytes_eq (text_of (node_there (C.files calls.old) at)) (codes "FamilySpecified")
-            && not (has_child (C.files calls.old) at FamilyName)) ∷ [])) result }
+        → IsValueOr (rules ++ held ((33, bytes_eq (text_of (node_there (C.files calls.old) at)) (codes "FamilySpecified") && not (has_child (C.files calls.old) at FamilyName)) ∷ [])) result }
     ensures cause { HasAskCause (C.files calls.old) (C.devices calls.old)
         (C.devices calls.new) result }
 {

@@ -242,7 +242,7 @@ fn rind_added<C: TreeCalls>(
         (C.devices calls.new) (C.files calls.new) }
     ensures value { IsTold (C.files calls.old) (C.devices calls.old)
         → IsValueOr (Some (with_rind sizes.now (rind_in index (C.files calls.old) children.now)))
-            result }
+        result }
     ensures cause { HasAskCause (C.files calls.old) (C.devices calls.old)
         (C.devices calls.new) result }
 {
@@ -314,7 +314,7 @@ fn place_by<C: TreeCalls>(
         (C.devices calls.new) (C.files calls.new) }
     ensures value { IsTold (C.files calls.old) (C.devices calls.old)
         → IsValueOr (place_of_word (text_of_first (C.files calls.old) (codes "Vertex") first))
-            result }
+        result }
     ensures cause { HasAskCause (C.files calls.old) (C.devices calls.old)
         (C.devices calls.new) result }
 {

@@ -36,7 +36,7 @@ pub fn breaks_bc_family<C: TreeCalls>(
         (C.devices calls.new) (C.files calls.new) }
     ensures value { IsTold (C.files calls.old) (C.devices calls.old)
         → IsValueOr (bytes_eq (text_of (node_there (C.files calls.old) at))
-            (codes "FamilySpecified") && not (has_child (C.files calls.old) at FamilyName)) result }
+        (codes "FamilySpecified") && not (has_child (C.files calls.old) at FamilyName)) result }
     ensures cause { HasAskCause (C.files calls.old) (C.devices calls.old)
         (C.devices calls.new) result }
 {
@@ -146,7 +146,7 @@ fn is_bad_range<C: TreeCalls>(
         (C.devices calls.new) (C.files calls.new) }
     ensures value { IsTold (C.files calls.old) (C.devices calls.old)
         → IsValueOr (given child (λ child. not (is_point_range index (C.files calls.old) child)))
-            result }
+        result }
     ensures cause { HasAskCause (C.files calls.old) (C.devices calls.old)
         (C.devices calls.new) result }
 {
@@ -175,7 +175,7 @@ fn is_bad_list<C: TreeCalls>(
         (C.devices calls.new) (C.files calls.new) }
     ensures value { IsTold (C.files calls.old) (C.devices calls.old)
         → IsValueOr (given child (λ child. not (is_point_list index (C.files calls.old) child)))
-            result }
+        result }
     ensures cause { HasAskCause (C.files calls.old) (C.devices calls.old)
         (C.devices calls.new) result }
 {

@@ -29,8 +29,8 @@ pub fn breaks_size<C: TreeCalls>(
         (C.devices calls.new) (C.files calls.new) }
     ensures value { IsTold (C.files calls.old) (C.devices calls.old)
         → IsValueOr (is_filled (C.files calls.old) at
-            && not (are_dims (node_there (C.files calls.old) at).dims
-            (with_rind sizes.now rind.now))) result }
+        && not (are_dims (node_there (C.files calls.old) at).dims
+        (with_rind sizes.now rind.now))) result }
     ensures cause { HasAskCause (C.files calls.old) (C.devices calls.old)
         (C.devices calls.new) result }
 {

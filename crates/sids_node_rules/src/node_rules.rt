@@ -131,7 +131,7 @@ pub fn breaks_rind_data<C: TreeCalls>(
         (C.devices calls.new) (C.files calls.new) }
     ensures value { IsTold (C.files calls.old) (C.devices calls.old)
         → IsValueOr (not (is_ints_of ((2 * index) ∷ []) (node_there (C.files calls.old) at)))
-            result }
+        result }
     ensures cause { HasAskCause (C.files calls.old) (C.devices calls.old)
         (C.devices calls.new) result }
 {
@@ -151,7 +151,7 @@ pub fn breaks_rind_name<C: TreeCalls>(calls: &mut C, node: NodeId) -> Result<boo
         (C.devices calls.new) (C.files calls.new) }
     ensures value { IsTold (C.files calls.old) (C.devices calls.old)
         → IsValueOr (not (bytes_eq (node_there (C.files calls.old) node).name (codes "Rind")))
-            result }
+        result }
     ensures cause { HasAskCause (C.files calls.old) (C.devices calls.old)
         (C.devices calls.new) result }
 {
@@ -175,7 +175,7 @@ pub fn breaks_version<C: TreeCalls>(
         (C.devices calls.new) (C.files calls.new) }
     ensures value { IsTold (C.files calls.old) (C.devices calls.old)
         → IsValueOr (not (count_of CgnsLibraryVersion (children_there (C.files calls.old) at) == 1))
-            result }
+        result }
     ensures cause { HasAskCause (C.files calls.old) (C.devices calls.old)
         (C.devices calls.new) result }
 {
@@ -315,7 +315,7 @@ fn are_no_units<C: TreeCalls>(calls: &mut C, at: NodeId) -> Result<bool, AdfErro
         (C.devices calls.new) (C.files calls.new) }
     ensures value { IsTold (C.files calls.old) (C.devices calls.old)
         → IsValueOr (not (is_array_of C1 (32 ∷ 5 ∷ []) (node_there (C.files calls.old) at)))
-            result }
+        result }
     ensures cause { HasAskCause (C.files calls.old) (C.devices calls.old)
         (C.devices calls.new) result }
 {
@@ -335,7 +335,7 @@ fn are_no_exponents<C: TreeCalls>(calls: &mut C, at: NodeId) -> Result<bool, Adf
         (C.devices calls.new) (C.files calls.new) }
     ensures value { IsTold (C.files calls.old) (C.devices calls.old)
         → IsValueOr (not (is_array_of R4 (5 ∷ []) (node_there (C.files calls.old) at)
-            || is_array_of R8 (5 ∷ []) (node_there (C.files calls.old) at))) result }
+        || is_array_of R8 (5 ∷ []) (node_there (C.files calls.old) at))) result }
     ensures cause { HasAskCause (C.files calls.old) (C.devices calls.old)
         (C.devices calls.new) result }
 {

@@ -36,7 +36,7 @@ pub fn with_base_rules<C: TreeCalls>(
         (C.devices calls.new) (C.files calls.new) }
     ensures value { IsTold (C.files calls.old) (C.devices calls.old)
         → IsValueOr (rules ++ held (tests_of_base (base_dimensions (C.files calls.old) at)))
-            result }
+        result }
     ensures cause { HasAskCause (C.files calls.old) (C.devices calls.old)
         (C.devices calls.new) result }
 {
@@ -141,9 +141,9 @@ fn with_counted_rules<C: TreeCalls>(
         (C.devices calls.new) (C.files calls.new) }
     ensures value { IsTold (C.files calls.old) (C.devices calls.old)
         → IsValueOr (rules ++ held
-            (tests_of_zone base.now sizes.now
-            (kind_by (C.files calls.old) (first_of ZoneType children.now))
-            (nat_lt 1 (count_of ZoneType children.now)))) result }
+        (tests_of_zone base.now sizes.now
+        (kind_by (C.files calls.old) (first_of ZoneType children.now))
+        (nat_lt 1 (count_of ZoneType children.now)))) result }
     ensures cause { HasAskCause (C.files calls.old) (C.devices calls.old)
         (C.devices calls.new) result }
 {

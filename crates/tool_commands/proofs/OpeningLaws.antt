@@ -26,10 +26,14 @@ use Rattle.tool_commands.specs.declared.named_files.NamedFile.{NamedFile}
 pub one_more : (files middle after : Files) (before between now : Devices) (named : List NamedFile) (outcomes : List Outcome) (file : NamedFile) (outcome : Outcome) → slice_get named (length outcomes) ≡ Some file
     → Run files before (openings outcomes named) between middle → Makes middle between (opening_for file.number outcome) now after → Run files before (openings (outcomes ++ outcome ∷ []) named) now after
 one_more files middle after before between now [] outcomes file outcome at run made = absurd cc
-one_more files middle after before between now (first ∷ named) [] file outcome at run made =
-    (after, now, subst (λ (f : NamedFile). Makes files before (opening_for f.number outcome) now after) (sym (same_Some first file at))
-        (subst (λ (fs : Files). Makes fs before (opening_for file.number outcome) now after) run.1
-        (subst (λ (ds : Devices). Makes middle ds (opening_for file.number outcome) now after) run.0 made)), (refl, refl))
+one_more files middle after before between now (first ∷ named) [] file outcome at run made = (
+  after,
+  now,
+  subst (λ (f : NamedFile). Makes files before (opening_for f.number outcome) now after) (sym (same_Some first file at))
+      (subst (λ (fs : Files). Makes fs before (opening_for file.number outcome) now after) run.1
+      (subst (λ (ds : Devices). Makes middle ds (opening_for file.number outcome) now after) run.0 made)),
+  (refl, refl),
+)
 one_more files middle after before between now (first ∷ named) (known ∷ outcomes) file outcome at run made =
     (run.0, run.1, run.2, one_more run.0 middle after run.1 between now named outcomes file outcome at run.3 made)
 

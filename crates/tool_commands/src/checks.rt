@@ -254,9 +254,7 @@ pub fn check_files<C: FileCalls, O: Sink>(
         (record { taken = O.taken output.old; faults = O.faults output.old })
         (record { taken = O.taken output.new; faults = O.faults output.new }) }
 {
-    let [first, ..] = files else {
-        unreachable!()
-    };
+    let [first, ..] = files else { unreachable!() };
     let Ok(opened) = open_files(alloc, calls, files) else {
         return Status::Memory;
     };

@@ -21,15 +21,25 @@ pub enum Wanted {
     /// They are not right.
     Nothing,
     /// The fresh file of a version on the device of this number.
-    Init { wide: bool, number: u32 },
+    Init {
+        wide: bool,
+        number: u32,
+    },
     /// The linter's verdict on that device's file.
     Lint(u32),
     /// The extents of that device's file.
     Map(u32),
     /// A packed copy of the file of one device into another device, in a version.
-    Copy { target: Target, from: u32, to: u32 },
+    Copy {
+        target: Target,
+        from: u32,
+        to: u32,
+    },
     /// A packed copy of the sound part of the file of one device into another device.
-    Salvage { from: u32, to: u32 },
+    Salvage {
+        from: u32,
+        to: u32,
+    },
     /// The findings of the first of some files by a set of rules.
     Check {
         set: RuleSet,

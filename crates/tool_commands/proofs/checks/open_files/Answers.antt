@@ -10,11 +10,12 @@ returns-in_err-open_file-clause-opens g c =
 
 pub returns-in_err-open_file-2-clause-opens : goal.returns-in_err-open_file-2-clause-opens
 returns-in_err-open_file-2-clause-opens g c =
-    let opened = c.open_file-in-loop-file.ensures.opens in
-    (c.loop-file.outcomes.items ++ opened.outcome ∷ [],
-        then_opens c.args.files.now (c.loop-file.file-index + 1) c.file-item.result c.loop-file.outcomes.items _ _ _ _ _ _ opened.outcome c.loop-file.invariant.way
-        (next_is c.args.files.now c.loop-file.file-index c.file-item.result (let t = c.loop-file-test.true in let e = c.loop-file.auto.file-index-end in omega (arith, t, e)) c.file-item.is) (let t = c.loop-file-test.true in let e = c.loop-file.auto.file-index-end in omega (arith, t, e)) opened.made,
-        IfOk-from_err c.from_residual-in_err-open_file-2.result _ c.from_residual-in_err-open_file-2.ensures.0)
+    let opened = c.open_file-in-loop-file.ensures.opens in (
+      c.loop-file.outcomes.items ++ opened.outcome ∷ [],
+      then_opens c.args.files.now (c.loop-file.file-index + 1) c.file-item.result c.loop-file.outcomes.items _ _ _ _ _ _ opened.outcome c.loop-file.invariant.way
+          (next_is c.args.files.now c.loop-file.file-index c.file-item.result (let t = c.loop-file-test.true in let e = c.loop-file.auto.file-index-end in omega (arith, t, e)) c.file-item.is) (let t = c.loop-file-test.true in let e = c.loop-file.auto.file-index-end in omega (arith, t, e)) opened.made,
+      IfOk-from_err c.from_residual-in_err-open_file-2.result _ c.from_residual-in_err-open_file-2.ensures.0,
+    )
 
 pub loop-file-preserved : goal.loop-file-preserved
 loop-file-preserved g c =
