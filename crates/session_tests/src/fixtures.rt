@@ -10,9 +10,9 @@ pub fn text_of(alloc: Global, bytes: &[u8]) -> Result<Text, Fail> {
     Ok(Text::new(bytes.to_vec(alloc)?))
 }
 
-/// A device of at most a block of bytes.
+/// A device of at most 16 blocks of bytes.
 pub fn device_of(alloc: Global, bytes: &[u8]) -> Result<MemoryDevice, Fail> {
-    if bytes.len() > 4096 {
+    if bytes.len() > 16 * 4096 {
         return Err(Fail::from(AdfError::TooLarge));
     }
     Ok(MemoryDevice::new(alloc, Text::new(bytes.to_vec(alloc)?)))
