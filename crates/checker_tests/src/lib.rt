@@ -12,8 +12,12 @@ mod plain_rules;
 #[cfg(test)]
 mod plain_trees;
 #[cfg(test)]
+mod single_rules;
+#[cfg(test)]
 mod tables;
 #[cfg(test)]
 mod tree_rules;
+#[cfg(test)]
+mod views;
 #[cfg(test)]
 mod walks;

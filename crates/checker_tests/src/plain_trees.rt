@@ -12,6 +12,7 @@ use std::alloc::Global;
 
 /// A node, by its place in the table: what it is named and is, and the places of its children. A link
 /// has the place that it leads to; nowhere where it cannot be followed.
+#[derive(Clone, Copy)]
 pub struct Row<'a> {
     pub name: &'a [u8],
     pub label: &'a [u8],
@@ -192,3 +193,57 @@ fn children_of(alloc: Global, rows: &[Row], row: &Row) -> Result<Children, AdfEr
     }
     Ok(Children::new(children))
 }
+
+/// A row: one without a type, one with data, one with a type and no data, a lost link, and a link to
+/// the row of a place. In a form that is laid out in one line.
+macro_rules! row {
+    ($name:literal : $label:literal $children:tt) => {
+        row!($name: $label Mt [] none $children)
+    };
+    ($name:literal : $label:literal $kind:ident $dims:tt none $children:tt) => {
+        Row {
+            name: $name,
+            label: $label,
+            kind: DataType::$kind,
+            dims: &$dims,
+            bytes: None,
+            children: &$children,
+            target: Target::Itself,
+        }
+    };
+    ($name:literal : $label:literal $kind:ident $dims:tt $bytes:tt $children:tt) => {
+        Row {
+            name: $name,
+            label: $label,
+            kind: DataType::$kind,
+            dims: &$dims,
+            bytes: Some($bytes),
+            children: &$children,
+            target: Target::Itself,
+        }
+    };
+    ($name:literal -> nowhere) => {
+        Row {
+            name: $name,
+            label: b"",
+            kind: DataType::Lk,
+            dims: &[1],
+            bytes: Some(b"x"),
+            children: &[],
+            target: Target::Nowhere,
+        }
+    };
+    ($name:literal -> $place:literal) => {
+        Row {
+            name: $name,
+            label: b"",
+            kind: DataType::Lk,
+            dims: &[1],
+            bytes: Some(b"x"),
+            children: &[],
+            target: Target::Place($place),
+        }
+    };
+}
+
+pub(crate) use row;
