@@ -24,7 +24,8 @@ pub struct Kept {
 /// Lists of children by the serials of their nodes, at most 2^20 names in all.
 ///
 /// A list that is kept is that of the node's children. Before a list goes beyond the bound all are dropped, and a list is dropped
-/// where it finds no memory to grow. An undo drops the lists that were changed since the last accepted group.
+/// where it finds no memory to grow, or where no child is left, so that there are never more lists than names. An undo drops the
+/// lists that were changed since the last accepted group.
 #[derive(Drop)]
 pub struct Names {
     lists: HashMap<u64, Kept>,
@@ -111,6 +112,9 @@ impl Names {
     pub fn clear(&mut self)
         ensures { self.new ≡ record { lists = []; group = self.old.group } }
     {
+        if self.lists.is_empty() {
+            return;
+        }
         self.lists.clear();
         self.count = 0;
     }
@@ -137,16 +141,18 @@ impl Names {
         self.take(node);
     }
 
-    /// Keeps the list of a node's children as they were read. Where the names would be too many, all others are dropped before.
+    /// Keeps the list of a node's children as they were read, where there are any. Where the names would be too many, all others are
+    /// dropped before.
     pub fn keep(&mut self, node: u64, list: Listed)
         ensures kept { total self.old + length list ≤ 2 ^ 20
             → Alters node (Some list) self.old self.new }
+        ensures none { list ≡ [] → kept_at self.new node ≡ None }
         ensures tied { (now was : Children) → AreKept self.old now was → list ≡ now node
             → AreKept self.new now was }
     {
         self.take(node);
         let many = list.len();
-        if many > MOST_NAMES {
+        if many == 0 || many > MOST_NAMES {
             return;
         }
         self.make_room(many);
@@ -194,6 +200,8 @@ impl Names {
     pub fn remove(&mut self, node: u64, name: &[u8; 32])
         ensures kept { Alters node (option_map (without name.now) (list_at self.old node))
             self.old self.new }
+        ensures none { option_map (without name.now) (list_at self.old node) ≡ Some []
+            → kept_at self.new node ≡ None }
         ensures tied { StaysTied (λ now. changed now node (without name.now (now node)))
             self.old self.new }
     {
@@ -202,6 +210,9 @@ impl Names {
             None => return,
         };
         list.remove(name);
+        if list.len() == 0 {
+            return;
+        }
         self.put(node, list);
     }
 
