@@ -1,3 +1,4 @@
+pub mod FollowsEdits
 pub mod KeptNames
 pub mod Starting
 pub mod OpenedRows

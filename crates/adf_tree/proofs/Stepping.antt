@@ -1,6 +1,6 @@
 -- Edits in work, and one more.
 use Rattle.std.proofs.Common.{◌≡◌, inl, inr, ℕ, suc, refl, sym, ◌∙◌, ap, subst, arith, List, [], ◌∷◌, ◌++◌, length, take, ◌+◌, ◌≤◌, Bool, true, false}
-use Rattle.std.specs.Prelude.{Option, Some, None, IfSome, slice_get, Ok}
+use Rattle.std.specs.Prelude.{Option, Some, None, IfSome, slice_get, Ok, Err}
 use Rattle.adf_format.specs.Tree.{Tree}
 use Rattle.adf_format.specs.Placement.{Placement, Heap}
 use Rattle.adf_model.specs.Counts.{DeviceState, OnlyReads}
@@ -9,6 +9,8 @@ use Rattle.adf_model.specs.FileGroup.{done_by}
 use Rattle.adf_model.specs.Need.{cost}
 use Rattle.adf_model.specs.Placing.{chunk_number, group_cost}
 use Rattle.adf_model.specs.Untouched.{touched_extents, group_touched}
+use Rattle.adf_model.specs.declared.error.AdfError.{AdfError}
+use Rattle.adf_model.specs.declared.error.AdfError.TheVariants as error
 use Rattle.adf_model.specs.declared.tree.Edit.{Edit}
 use Rattle.block_cache.specs.Cache.{IsCache}
 use Rattle.block_draft.specs.Draft.{blocks_below, changes_in, waiting_in}
@@ -27,12 +29,12 @@ use Rattle.tree_edits.specs.Edits.{Does, Follows, KeepsCore, memory_of}
 use Rattle.tree_edits.specs.Rows.{AreNear}
 use Rattle.tree_edits.specs.Waiting.{Reaches}
 use Rattle.adf_tree.specs.declared.file.AdfFile.{AdfFile}
-use Rattle.adf_tree.specs.Files.{steps_in, device_of, image_in, accepted, HasMeaning, FollowsAll, DoesAll, IsWorking, IsFile, KeepsNames}
+use Rattle.adf_tree.specs.Files.{FileState, steps_in, device_of, image_in, state_of, accepted, HasMeaning, FollowsAll, DoesAll, IsWorking, IsFile, KeepsNames}
 use Rattle.adf_tree.specs.Commits.{committed}
-use Rattle.adf_tree.specs.Steps.{IsWithinCost}
+use Rattle.adf_tree.specs.Steps.{IsWithinCost, Refused, StepEnds, undone_over}
 use Rattle.kept_names.specs.Kept.{AreKept, Children}
 use Rattle.adf_tree.proofs.KeptNames.{committed_names, undone_names}
-use Rattle.adf_tree.proofs.Starting.{idle_file, no_steps}
+use Rattle.adf_tree.proofs.Starting.{idle_file, idle_state, no_steps}
 
 -- ---- lists
 
@@ -173,6 +175,9 @@ module _ {D : Type 0} (state : D → DeviceState) (old new : AdfFile D) (w : IsW
 
 -- ---- a file whose edits in work are dropped
 
+abbrev idle_over : DeviceState → Core → Bool → FileState
+idle_over device core broken = record { device = device; image = device.held; waiting = []; core = core; steps = []; broken = broken }
+
 module _ {D : Type 0} (state : D → DeviceState) (old new : AdfFile D) (w : IsWorking state old) (same : new.core ≡ accepted old.core) (settled : changes_in new.draft ≡ []) (steps : new.steps.items ≡ [])
     (cache : IsCache state (blocks_below new.draft)) (held : (device_of state new).held ≡ (device_of state old).held) (broken : new.broken ≡ old.broken)
     (tied : (now was : Children) → AreKept old.names now was → AreKept new.names was was)
@@ -184,6 +189,16 @@ module _ {D : Type 0} (state : D → DeviceState) (old new : AdfFile D) (w : IsW
         (λ live. subst (λ (h : Option (List ℕ)). KeepsNames new.names new.core h h) (sym held)
         (subst (λ (core : Core). KeepsNames new.names core (device_of state old).held (device_of state old).held) (sym same)
         (undone_names old.names new.names old.core (steps_in old) (waiting_in old.draft) (device_of state old).held (image_in state old) tied (w.names (sym broken ∙ live)) (w.work (sym broken ∙ live)))))
+
+    pub dropped_state : state_of state new ≡ undone_over (device_of state new) (state_of state old)
+    dropped_state = idle_state state new dropped_file
+        ∙ ap (λ (core : Core). idle_over (device_of state new) core new.broken) (ap accepted same)
+        ∙ ap (λ (b : Bool). idle_over (device_of state new) (accepted old.core) b) broken
+
+-- an edit is refused, and by no failed write
+pub refused_ends : (edit : Edit) (e : AdfError) (old new : FileState) → Refused edit e old new → StepEnds edit (Err e) old new
+refused_ends edit error.Broken old new r = absurd r.cause
+refused_ends edit e old new r = r
 
 -- ---- a file whose edits in work are committed
 

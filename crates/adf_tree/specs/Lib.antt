@@ -9,3 +9,4 @@ pub mod Headers
 pub mod Groups
 pub mod Asks
 pub mod Maps
+pub mod KeptLists

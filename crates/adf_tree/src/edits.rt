@@ -19,8 +19,8 @@ use tree_deletes::delete;
 use tree_edits::{Core, create, link, rename, set_label};
 use tree_moves::move_to;
 
-// The node that was reached, where one was.
-fn or_reached(node: NodeId, there: Option<NodeId>) -> NodeId
+/// The node that was reached, where one was.
+pub(crate) fn or_reached(node: NodeId, there: Option<NodeId>) -> NodeId
     ensures { result ≡ or_reached node there }
 {
     match there {

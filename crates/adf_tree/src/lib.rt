@@ -13,6 +13,7 @@ mod hints;
 mod looks;
 mod making;
 mod maps;
+mod names;
 mod opening;
 mod standing;
 mod steps;

@@ -7,6 +7,7 @@ ghost use Rattle.adf_tree.specs.Steps.{StepEnds};
 use crate::edits::do_edit;
 use crate::file::AdfFile;
 use crate::hints::add_hint;
+use crate::names::{above, follow};
 use adf_model::{AdfError, Edit, NodeId};
 use cg_io::Device;
 
@@ -33,6 +34,7 @@ impl<D: Device> AdfFile<D> {
         if self.broken {
             return Err(AdfError::Broken);
         }
+        let above = above(&self.core.rows, edit);
         match do_edit(
             self.alloc,
             &mut self.draft,
@@ -43,7 +45,7 @@ impl<D: Device> AdfFile<D> {
         ) {
             Ok(serial) => {
                 self.steps = self.steps.and(edit, &there);
-                self.names.clear();
+                follow(&mut self.names, edit, there, above, serial);
                 add_hint(&mut self.hints, &self.core.rows, serial);
                 Ok(serial)
             }
