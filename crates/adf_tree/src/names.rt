@@ -62,10 +62,20 @@ pub(crate) fn follow(
 {
     match edit {
         Edit::Create { parent, name, .. } => {
-            follow_child(names, or_reached(*parent, there).serial, name.items(), drawn)
+            follow_child(
+                names,
+                or_reached(*parent, there).serial,
+                name.items(),
+                drawn,
+            )
         }
         Edit::Link { parent, name, .. } => {
-            follow_child(names, or_reached(*parent, there).serial, name.items(), drawn)
+            follow_child(
+                names,
+                or_reached(*parent, there).serial,
+                name.items(),
+                drawn,
+            )
         }
         Edit::Delete { .. } => names.clear(),
         Edit::Rename { .. } => drop_list(names, above),

@@ -167,7 +167,11 @@ fn three_files(
     let mut shelf = Shelf::new(alloc);
     add_file(&mut shelf, text_of(alloc, b"a.adf")?, first)?;
     add_file(&mut shelf, text_of(alloc, b"b.adf")?, second)?;
-    add_file(&mut shelf, text_of(alloc, b"c.adf")?, device_of(alloc, b"abc")?)?;
+    add_file(
+        &mut shelf,
+        text_of(alloc, b"c.adf")?,
+        device_of(alloc, b"abc")?,
+    )?;
     Ok(shelf)
 }
 
@@ -221,9 +225,11 @@ fn check_made(alloc: Global, lines: &[u8], line: &str, fault: Fault) -> Result<D
 
 fn is_so(alloc: Global, case: &Case) -> Result<bool, Fail> {
     let done = check_made(alloc, case.lines, case.words, Fault::Nothing)?;
-    Ok(done.status == case.status
-        && done.printed.as_slice() == case.printed
-        && (done.reads[0] > 0) == case.is_read)
+    Ok(
+        done.status == case.status
+            && done.printed.as_slice() == case.printed
+            && (done.reads[0] > 0) == case.is_read,
+    )
 }
 
 #[test]
@@ -254,8 +260,10 @@ fn is_cut(printed: &[u8], whole: &[u8]) -> bool {
 fn tells_first(alloc: Global, call: u64) -> Result<bool, Fail> {
     let done = check_made(alloc, BASE, WORDS, Fault::ReadFirst(call))?;
     let printed = done.printed.as_slice();
-    Ok(done.status == Status::DeviceFault
-        && (printed == b"closed a.adf\nE02 ReadFault\n".as_slice() || is_cut(printed, PRINTED)))
+    Ok(
+        done.status == Status::DeviceFault
+            && (printed == b"closed a.adf\nE02 ReadFault\n".as_slice() || is_cut(printed, PRINTED)),
+    )
 }
 
 #[test]
@@ -271,12 +279,14 @@ fn a_failed_read_of_the_first_file_cuts_the_lines(rt: HostRuntime) -> Result<(),
 // Whether a check ends so where this read of the second file fails: at its opening, or behind it.
 fn tells_second(alloc: Global, call: u64) -> Result<bool, Fail> {
     let done = check_made(alloc, LINKED, "check a.adf b.adf", Fault::ReadSecond(call))?;
-    Ok(done.status == Status::DeviceFault
-        && (done.printed.as_slice() == UNREAD
-            || done.printed.as_slice()
-                == b"closed b.adf\nE02 ReadFault\n\
+    Ok(
+        done.status == Status::DeviceFault
+            && (done.printed.as_slice() == UNREAD
+                || done.printed.as_slice()
+                    == b"closed b.adf\nE02 ReadFault\n\
 /Base/Zone/ZoneType K01 link\n/Base/Zone/GridCoordinates K01 link\n"
-                    .as_slice()))
+                        .as_slice()),
+    )
 }
 
 #[test]
@@ -292,9 +302,11 @@ fn a_failed_read_of_a_later_file_is_told(rt: HostRuntime) -> Result<(), Fail> {
 // Whether a check ends so where this call of the output fails: some first bytes are printed.
 fn tells_output(alloc: Global, call: u64) -> Result<bool, Fail> {
     let done = check_made(alloc, BASE, WORDS, Fault::Put(call))?;
-    Ok(done.status == Status::SinkFault
-        && done.printed.len() < PRINTED.len()
-        && PRINTED.starts_with(&done.printed))
+    Ok(
+        done.status == Status::SinkFault
+            && done.printed.len() < PRINTED.len()
+            && PRINTED.starts_with(&done.printed),
+    )
 }
 
 #[test]
