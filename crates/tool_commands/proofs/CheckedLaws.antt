@@ -1,6 +1,6 @@
 -- What a check of files leaves of them and of their devices, and what its status tells.
 use Rattle.std.proofs.Common.{◌≡◌, ◌≢◌, inl, inr, ℕ, zero, suc, ◌≤◌, cond, Bool, true, false, List, refl, sym, ◌∙◌, ap, subst, arith, le_trans}
-use Rattle.std.specs.Prelude.{Option, Some, None, Result, Ok, Err}
+use Rattle.std.specs.Prelude.{None, Result, Ok, Err}
 use Rattle.std.specs.List.{list_any}
 use Rattle.adf_model.specs.Counts.{Rose}
 use Rattle.adf_model.specs.Slots.{Files, Devices, names_there}
@@ -54,14 +54,14 @@ no_sink : status.No ≢ status.SinkFault
 no_sink is = cc
 
 -- a status that is not that of a failed output comes behind the whole text
-printed_fault : (wanted : Status) (text : List ℕ) (result : Status) (before after : Output) → Prints wanted text result before after → result ≡ status.DeviceFault → wanted ≡ status.DeviceFault
+pub printed_fault : (wanted : Status) (text : List ℕ) (result : Status) (before after : Output) → Prints wanted text result before after → result ≡ status.DeviceFault → wanted ≡ status.DeviceFault
 printed_fault wanted text result before after prints is =
     elim prints.1 [ inl whole ↦ sym whole.0 ∙ is | inr part ↦ absurd (apart (sym part.0 ∙ is)) ]
   where
     apart : status.SinkFault ≡ status.DeviceFault → ⊥
     apart e = cc
 
-printed_sink : (wanted : Status) (text : List ℕ) (result : Status) (before after : Output) → Prints wanted text result before after → wanted ≢ status.SinkFault → result ≡ status.SinkFault → Rose before.faults after.faults
+pub printed_sink : (wanted : Status) (text : List ℕ) (result : Status) (before after : Output) → Prints wanted text result before after → wanted ≢ status.SinkFault → result ≡ status.SinkFault → Rose before.faults after.faults
 printed_sink wanted text result before after prints other is =
     elim prints.1 [ inl whole ↦ absurd (other (sym whole.0 ∙ is)) | inr part ↦ part.1 ]
 

@@ -1,6 +1,6 @@
 -- What a check of files leaves of a shelf.
-use Rattle.std.proofs.Common.{◌≡◌, ◌≢◌, ℕ, zero, suc, ◌<◌, List, [], ◌∷◌, length, map, refl, sym, ◌∙◌, ap, subst}
-use Rattle.std.specs.Prelude.{Option, Some, None}
+use Rattle.std.proofs.Common.{◌≡◌, ℕ, List, [], ◌∷◌, length, map, refl, sym, ◌∙◌, ap, subst}
+use Rattle.std.specs.Prelude.{None}
 use Rattle.std.proofs.lemmas.List.{length-map}
 use Rattle.adf_model.specs.Slots.{Files, Device, Devices, device_at, names_there}
 use Rattle.adf_model.specs.Steps.{OnlyRead, OthersOnlyRead, SomeFault}
@@ -22,7 +22,7 @@ use Rattle.tool_commands.proofs.OpeningLaws.{opens_none}
 use Rattle.tool_commands.proofs.Sessions.{entry_names, unplaced_at, counts_left}
 
 -- devices that are only read, once their files are closed
-reads_left : (before now new : Devices) → new ≡ map unplaced now → OthersOnlyRead None before now → OthersOnlyRead None before new
+pub reads_left : (before now new : Devices) → new ≡ map unplaced now → OthersOnlyRead None before now → OthersOnlyRead None before new
 reads_left before now new left reads = record {
   count = ap length left ∙ length-map now unplaced ∙ reads.count;
   others = λ k apart. let read = reads.others k apart in subst (OnlyRead (device_at before k)) (sym (at k)) (record { held = read.held; lost = read.lost; writes = read.writes; reads = read.reads; faults = read.faults });
@@ -32,7 +32,7 @@ reads_left before now new left reads = record {
     at : (k : ℕ) → device_at new k ≡ unplaced (device_at now k)
     at k = ap (λ (ds : Devices). device_at ds k) left ∙ unplaced_at now k
 
-fault_left : (before now new : Devices) → new ≡ map unplaced now → SomeFault before now → SomeFault before new
+pub fault_left : (before now new : Devices) → new ≡ map unplaced now → SomeFault before now → SomeFault before new
 fault_left before now new left fault = (fault.0, subst (λ (d : Device). Rose (device_at before fault.0).faults d.faults) (sym (ap (λ (ds : Devices). device_at ds fault.0) left ∙ unplaced_at now fault.0)) fault.1)
 
 -- what was told of the check, once all files are closed

@@ -7,4 +7,5 @@ pub mod NumberLaws
 pub mod OpeningLaws
 pub mod SalvageLaws
 pub mod Sessions
+pub mod TreeLaws
 pub mod TwoDevices

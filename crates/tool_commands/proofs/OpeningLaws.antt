@@ -1,6 +1,6 @@
 -- What openings of files for reading leave, one after another.
-use Rattle.std.proofs.Common.{◌≡◌, ◌≢◌, ◌⊎◌, inl, inr, ℕ, zero, suc, ◌+◌, ◌-◌, ◌<◌, ◌≤◌, ◌^◌, cond, drop, take, get_or, Bool, true, false, not, List, [], ◌∷◌, ◌++◌, length, length-append, refl, sym, ◌∙◌, ap, subst, arith, le_trans}
-use Rattle.std.specs.Prelude.{Option, Some, None, Result, Ok, Err, IfErr, slice_get, IsTrue}
+use Rattle.std.proofs.Common.{◌≡◌, ◌≢◌, ◌⊎◌, inl, inr, ℕ, zero, suc, ◌+◌, ◌-◌, ◌<◌, ◌≤◌, drop, take, get_or, true, false, not, List, [], ◌∷◌, ◌++◌, length, length-append, refl, sym, ◌∙◌, ap, subst, arith, le_trans}
+use Rattle.std.specs.Prelude.{Some, None, Ok, Err, IfErr, slice_get}
 use Rattle.std.proofs.Math.Seq.{take-length}
 use Rattle.std.specs.List.{AllByRecursion, list_any}
 use Rattle.adf_model.specs.declared.error.AdfError.{AdfError}
@@ -10,14 +10,14 @@ use Rattle.adf_model.specs.Tests.{first_refusal}
 use Rattle.adf_model.specs.Slots.{Slot, Standing, Files, Device, Devices, device_at, is_broken, is_gone, is_open, names_there, slot_at, standing_of, standings}
 use Rattle.adf_model.specs.Slots.Slot.{Gone, Raw, Saved, Live}
 use Rattle.adf_model.specs.Counts.{Rose}
-use Rattle.adf_model.specs.Steps.{IsFirstOr, NoCountFell, OthersOnlyRead, SomeFault, Stored, open_tests}
-use Rattle.adf_model.specs.Causes.{HasOpenCause, IsOpenCause, OpeningWrites, OpensStanding}
+use Rattle.adf_model.specs.Steps.{IsFirstOr, OthersOnlyRead, SomeFault, Stored}
+use Rattle.adf_model.specs.Causes.{OpeningWrites}
 use Rattle.adf_model.specs.Runs.{Makes, Run}
 use Rattle.adf_model.proofs.Answering.AskLaws.{asks_none}
 use Rattle.adf_model.proofs.Answering.Asking.{stays-trans}
 use Rattle.adf_model.proofs.Answering.RuleNames.{rules_named}
 use Rattle.adf_model.proofs.Answering.StandingLaws.{opened_stands, others_stand, refused_stand}
-use Rattle.adf_model.proofs.Basics.{not_true, same_Some}
+use Rattle.adf_model.proofs.Basics.{same_Some}
 use Rattle.tool_commands.specs.Openings.{Adds, HaveEnded, HaveMemory, IsFirstClosed, Opens, Outcome, StopsAtFirst, first_number, is_fault, is_first_open, is_refused, lacks_memory, opening_for, openings}
 use Rattle.tool_commands.specs.declared.named_files.NamedFile.{NamedFile}
 
@@ -39,7 +39,7 @@ one_more files middle after before between now (first ∷ named) (known ∷ outc
 
 -- ---- nothing is written
 
-opening_reads : (number : ℕ) (outcome : Outcome) (before now : Devices) → OpeningWrites outcome (Stored false) number before now → OthersOnlyRead None before now
+pub opening_reads : (number : ℕ) (outcome : Outcome) (before now : Devices) → OpeningWrites outcome (Stored false) number before now → OthersOnlyRead None before now
 opening_reads number (Ok done) before now writes = writes.0
 opening_reads number (Err error.WriteFault) before now writes = writes.0
 opening_reads number (Err error) before now writes = writes
@@ -123,7 +123,7 @@ openings_named files after before now (file ∷ named) (outcome ∷ outcomes) fe
     by_outcome (Err error) made = rules_named files run.0 before run.1 (opening_for file.number (Err error)) made.anyway
 
 -- a failed read at an opening is one of its device
-fault_rose : (slot : Slot) (before now : Device) → IsFirstOr (first_refusal ((is_gone slot, error.NoSuchFile) ∷ (is_open slot, error.AlreadyOpen) ∷ [])) error.ReadFault (Rose before.faults now.faults) → Rose before.faults now.faults
+pub fault_rose : (slot : Slot) (before now : Device) → IsFirstOr (first_refusal ((is_gone slot, error.NoSuchFile) ∷ (is_open slot, error.AlreadyOpen) ∷ [])) error.ReadFault (Rose before.faults now.faults) → Rose before.faults now.faults
 fault_rose Gone before now cause = absurd cc
 fault_rose Raw before now cause = cause
 fault_rose (Saved tree) before now cause = cause

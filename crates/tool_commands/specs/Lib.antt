@@ -6,3 +6,4 @@ pub mod Pairs
 pub mod Printed
 pub mod Salvages
 pub mod Tool
+pub mod Trees

@@ -10,7 +10,6 @@ use Rattle.adf_model.specs.Slots.{Files, Devices}
 use Rattle.adf_model.specs.Counts as device
 use Rattle.adf_model.specs.Counts.{Rose, OnlyReads}
 use Rattle.adf_model.specs.Steps.{AllLaidOut, NoCountFell}
-use Rattle.adf_repack.specs.declared.whole.Target.{Target}
 use Rattle.adf_repack.specs.declared.whole.Target.TheVariants as target
 use Rattle.adf_tree.specs.Making.{MakesFresh}
 use Rattle.cg_io.specs.Device.{DeviceState}
@@ -30,6 +29,7 @@ use Rattle.tool_commands.specs.Copies.{CopyEnds}
 use Rattle.tool_commands.specs.Named.{named_files}
 use Rattle.tool_commands.specs.Printed.{line, EndsWith}
 use Rattle.tool_commands.specs.Salvages.{SalvageEnds}
+use Rattle.tool_commands.specs.Trees.{TreeEnds}
 use Rattle.tool_commands.specs.declared.named_files.NamedFile.{NamedFile}
 use Rattle.tool_commands.specs.declared.status.Status.{Status}
 use Rattle.tool_commands.specs.declared.status.Status.TheVariants as status
@@ -76,7 +76,8 @@ command_on command number =
     if bytes_eq command (codes "init") then asks.Init false number else
     if bytes_eq command (codes "init-wide") then asks.Init true number else
     if bytes_eq command (codes "lint") then asks.Lint number else
-    if bytes_eq command (codes "map") then asks.Map number else asks.Nothing
+    if bytes_eq command (codes "map") then asks.Map number else
+    if bytes_eq command (codes "tree") then asks.Tree number else asks.Nothing
 
 abbrev pub command_wanted : List ℕ → Option ℕ → Wanted
 command_wanted command None = asks.Nothing
@@ -116,6 +117,7 @@ IsOnShelf (asks.Salvage from to) slots = (from ≢ to) × IsSome (device_at slot
 IsOnShelf (asks.Init wide number) slots = IsSome (device_at slots number)
 IsOnShelf (asks.Lint number) slots = IsSome (device_at slots number)
 IsOnShelf (asks.Map number) slots = IsSome (device_at slots number)
+IsOnShelf (asks.Tree number) slots = IsSome (device_at slots number)
 IsOnShelf other slots = ⊤
 
 -- ---- init
@@ -217,7 +219,7 @@ pub record SessionEnds (how : Ended) (old new : List SlotState) (before now : St
   pub source_later : before.source_faults ≤ now.source_faults
   pub sink_later : before.sink_faults ≤ now.sink_faults
 
--- ---- checks
+-- ---- checks and trees
 
 -- the output of a run
 abbrev pub output_of : Streams → Output
@@ -230,7 +232,7 @@ MayLack other = ⊥
 
 -- ---- all commands
 
--- how a run ends, and what it leaves on the shelf: without right words the usage line; else the fresh file or a report on the device of that number alone, a copy of a file or of its sound part between the devices of two numbers, a check of the first of some files, or a session over all
+-- how a run ends, and what it leaves on the shelf: without right words the usage line; else the fresh file or a report on the device of that number alone, the lines of its tree, a copy of a file or of its sound part between the devices of two numbers, a check of the first of some files, or a session over all
 abbrev pub RunEnds : Wanted → Status → List SlotState → List SlotState → Streams → Streams → Type 0
 RunEnds asks.Nothing result old new before now = (new ≡ old) × EndsWith status.Usage usage result before.taken now.taken before.sink_faults now.sink_faults × InputStays before now
 RunEnds (asks.Init wide n) result old new before now =
@@ -239,6 +241,7 @@ RunEnds (asks.Lint n) result old new before now =
     OnDevice n (λ device after. Reports Linted result device after before.taken now.taken before.sink_faults now.sink_faults) old new × InputStays before now
 RunEnds (asks.Map n) result old new before now =
     OnDevice n (λ device after. Reports Mapped result device after before.taken now.taken before.sink_faults now.sink_faults) old new × InputStays before now
+RunEnds (asks.Tree n) result old new before now = TreeEnds n result old new (output_of before) (output_of now) × InputStays before now
 RunEnds (asks.Copy version from to) result old new before now =
     OnDevices from to (λ source source_after target target_after.
     CopyEnds version result source source_after target target_after before.taken now.taken before.sink_faults now.sink_faults) old new

@@ -22,8 +22,8 @@ use session::{FileCalls, print};
 use sids_readings::RuleSet;
 use std::alloc::{AllocError, Global};
 
-// The address limit of files that are opened for a check, in blocks.
-const LIMIT: u64 = 1 << 32;
+/// The address limit of files that are opened for reading, in blocks.
+pub const LIMIT: u64 = 1 << 32;
 
 // Opens a file for reading, and adds how that ended to the outcomes. Whether it is open.
 fn open_file<C: FileCalls>(

@@ -6,6 +6,7 @@ ghost use Rattle.tool_commands.specs.Copies.{CopyEnds};
 ghost use Rattle.tool_commands.specs.Printed.{EndsWith};
 ghost use Rattle.tool_commands.specs.Salvages.{SalvageEnds};
 ghost use Rattle.tool_commands.specs.Tool.{InitEnds, OnDevice, OnDevices, Reports, RunEnds, SessionEnds, init_line, init_status, report_status, session_status, usage, wanted};
+ghost use Rattle.tool_commands.specs.Trees.{TreeEnds};
 ghost use Rattle.layout_report.specs.Reports.{Linted, Mapped};
 ghost use Rattle.adf_library.specs.Shelf.{slots_of, device_at, IsShelf, IsWhole};
 
@@ -16,6 +17,7 @@ use crate::pairs::{put_both_back, take_both};
 use crate::printing::ended;
 use crate::salvages::{Salvage, salvage_file, tell_salvage};
 use crate::status::Status;
+use crate::trees::print_file;
 use crate::words::{Wanted, read_words};
 use adf_library::{Library, Shelf};
 use adf_model::AdfError;
@@ -292,6 +294,31 @@ fn check_on<D: Device, O: Sink>(
     status
 }
 
+// The lines of the tree of a file of a shelf. Meanwhile an empty shelf stands in its place.
+fn tree_on<D: Device, O: Sink>(
+    alloc: Global,
+    number: u32,
+    shelf: &mut Shelf<D>,
+    output: &mut O,
+) -> Status
+    requires whole { IsWhole shelf.old }
+    requires shelf { IsShelf shelf.old }
+    ensures tree { TreeEnds number result (slots_of D.state shelf.old) (slots_of D.state shelf.new)
+        (record { taken = O.taken output.old; faults = O.faults output.old })
+        (record { taken = O.taken output.new; faults = O.faults output.new }) }
+    ensures whole { IsWhole shelf.new }
+    ensures shelf { IsShelf shelf.new }
+{
+    let held = replace(shelf, Shelf::new(alloc));
+    let Ok(made) = Library::new(alloc, held) else {
+        unreachable!()
+    };
+    let mut calls = made;
+    let status = print_file(alloc, &mut calls, number, output);
+    *shelf = calls.finish();
+    status
+}
+
 fn say_usage<O: Sink>(output: &mut O) -> Status
     ensures { EndsWith Status.Usage usage result (O.taken output.old) (O.taken output.new)
         (O.faults output.old) (O.faults output.new) }
@@ -334,6 +361,7 @@ pub fn run_on<D: Device, I: Source, O: Sink>(
         Wanted::Init { wide, number } => init_on(wide, number, shelf, output),
         Wanted::Lint(number) => lint_on(alloc, number, shelf, output),
         Wanted::Map(number) => map_on(alloc, number, shelf, output),
+        Wanted::Tree(number) => tree_on(alloc, number, shelf, output),
         Wanted::Copy { target, from, to } => copy_on(alloc, target, from, to, shelf, output),
         Wanted::Salvage { from, to } => salvage_on(alloc, from, to, shelf, output),
         Wanted::Check { set, files } => check_on(alloc, set, files.items(), shelf, output),

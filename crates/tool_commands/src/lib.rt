@@ -11,6 +11,7 @@ mod pairs;
 mod printing;
 mod salvages;
 mod status;
+mod trees;
 mod words;
 
 pub use commands::{run_on, run_tool};

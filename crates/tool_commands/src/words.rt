@@ -29,6 +29,8 @@ pub enum Wanted {
     Lint(u32),
     /// The extents of that device's file.
     Map(u32),
+    /// The lines of the tree of that device's file.
+    Tree(u32),
     /// A packed copy of the file of one device into another device, in a version.
     Copy {
         target: Target,
@@ -84,6 +86,8 @@ fn command_on(command: &str, number: u32) -> Wanted
         Wanted::Lint(number)
     } else if command == "map" {
         Wanted::Map(number)
+    } else if command == "tree" {
+        Wanted::Tree(number)
     } else {
         Wanted::Nothing
     }

@@ -1,5 +1,5 @@
 -- How a run ends where nothing fails, command by command.
-use Rattle.std.specs.Prelude.{IfSome}
+use Rattle.std.specs.Prelude.{IfSome, IsSome}
 use Rattle.adf_model.proofs.Basics.{same_Some}
 use Rattle.std.proofs.Common.{◌≡◌, ◌≢◌, ◌⊎◌, inl, inr, ℕ, ◌^◌, ◌<◌, List, [], ◌∷◌, length, Option, Some, None, Result, Ok, Err, Bool, refl, sym, ◌∙◌, ap, subst, arith}
 use Rattle.std.proofs.lemmas.List.{length-append}
@@ -58,16 +58,8 @@ use Rattle.tool_laws.specs.Given.{IsQuiet, IsDecided, OfDevice, HasTree, GivesFr
 use Rattle.tool_laws.specs.Given.HasNoRoom.{long, full, large}
 use Rattle.tool_laws.specs.Given.HasNoWholePart.{lost, roomless, left_out}
 use Rattle.tool_laws.proofs.Devices.{device_put, other_put, quiet_there}
-
--- a run that ends for want of memory, or as is given
-abbrev Ends : Status → Type 0 → Type 0
-Ends result Given = (result ≡ status.Memory) ⊎ Given
-
--- what was printed ends as it was wanted
-printed_whole : (wanted : Status) (text : List ℕ) (result : Status) (taken now : Option (List ℕ)) (faults later : ℕ) → (Rose faults later → ⊥)
-    → EndsWith wanted text result taken now faults later → result ≡ wanted
-printed_whole wanted text result taken now faults later quiet (rises, inl e) = e.0
-printed_whole wanted text result taken now faults later quiet (rises, inr e) = absurd (quiet e.1)
+use Rattle.tool_laws.proofs.Ends.{Ends, fault_not_no, memory_not_no, printed_whole}
+use Rattle.tool_laws.proofs.Listed.{some_device, tree_given}
 
 -- ---- init
 
@@ -116,12 +108,6 @@ report_given says result old new taken now faults later quiet given r =
     by_how how (Says.torn report text is rose part) = absurd (quiet rose)
 
 -- ---- copies
-
-memory_not_no : status.Memory ≡ status.No → ⊥
-memory_not_no same = absurd cc
-
-fault_not_no : status.DeviceFault ≡ status.No → ⊥
-fault_not_no same = absurd cc
 
 -- a refusal that says no is none for want of memory, nor of a failed read
 not_early : (e : AdfError) → copy_status (Err e) ≡ status.No → (e ≡ error.Memory) ⊎ (e ≡ error.ReadFault) → ⊥
@@ -326,6 +312,17 @@ module _ (result : Status) (old new : List SlotState) (before now : Streams) (qu
   run_given (asks.Salvage from to) on (did, input) = of_devices from to _ (GivesSalvage result) on.0 did
       (λ source source_after target target_after still still_there h. told_salvage source source_after target target_after still still_there h.made result before.taken now.taken before.sink_faults now.sink_faults quiet.sink h.told
       (salvage_given source source_after target target_after still still_there h.made h.salvage))
+  run_given (asks.Tree n) on (ends, input) =
+      by_device (there n on)
+    where
+      there : (k : ℕ) → IsSome (device_at old k) → (device : DeviceState) × (device_at old k ≡ Some device)
+      there k on = some_device (device_at old k) on
+
+      by_device : ((device : DeviceState) × (device_at old n ≡ Some device)) → Ends result (Gives (asks.Tree n) old before result)
+      by_device (device, there) = tree_given old n device there result (λ is. no_fault (ends.fault is)) (λ is. quiet.sink (ends.sink is)) (output_of before) (output_of now) quiet.sink ends.files ends.devices ends.prints
+        where
+          no_fault : SomeFault (shelf_devices old) (shelf_devices new) → ⊥
+          no_fault some = quiet.devices some.0 some.1
   run_given (asks.Check set files) on (ends, input) =
       behind_given (rules_of set) files old result (output_of before) (output_of now) (λ is. no_fault (ends.fault is)) (λ is. quiet.sink (ends.sink is)) quiet.sink
       ends.checked.outcomes ends.files ends.checked.opened ends.devices ends.checked.opens ends.checked.ends

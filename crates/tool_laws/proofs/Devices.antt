@@ -12,7 +12,7 @@ use Rattle.adf_tree.specs.Files.{device_with}
 use Rattle.cg_io.specs.Device.{DeviceState}
 
 -- the device that stands under a number
-device_there : (slots : List SlotState) (n : ℕ) (device : DeviceState) → device_at slots n ≡ Some device → model.device_at (shelf_devices slots) n ≡ device_with no_device.placement device
+pub device_there : (slots : List SlotState) (n : ℕ) (device : DeviceState) → device_at slots n ≡ Some device → model.device_at (shelf_devices slots) n ≡ device_with no_device.placement device
 device_there [] n device is = absurd cc
 device_there (x ∷ xs) zero device is = by_place x.place is
   where

@@ -1,2 +1,4 @@
 pub mod Devices
+pub mod Ends
+pub mod Listed
 pub mod Decided

@@ -123,6 +123,13 @@ pub data GivesCheck (rules : List Rule) (named : List NamedFile) (slots : List S
   silent : (outcomes : List Outcome) (files : Files) (devices : Devices) → Opens named outcomes (shelf_files slots) (shelf_devices slots) devices files → AreOpened named outcomes
       → (IsTold files devices → ⊥) → result ≡ status.No → GivesCheck rules named slots result
 
+-- ---- trees
+
+-- The lines of the tree of a file: they are done exactly on a file that lays out a tree, but that files on a shelf of which not all tell may be told as refused.
+abbrev pub GivesTree : ℕ → List SlotState → Status → Type 0
+GivesTree n slots result = IsDecided result (OfDevice slots n (λ device. Told device.held HasTree))
+    (OfDevice slots n (λ device. Told device.held HasFault) ⊎ (IsTold (shelf_files slots) (shelf_devices slots) → ⊥))
+
 -- ---- all commands
 
 -- what the words, the devices and the input give
@@ -131,6 +138,7 @@ Gives asks.Nothing slots streams result = result ≡ status.Usage
 Gives (asks.Init wide n) slots streams result = OfDevice slots n (GivesFresh result)
 Gives (asks.Lint n) slots streams result = OfDevice slots n (GivesReport result)
 Gives (asks.Map n) slots streams result = OfDevice slots n (GivesReport result)
+Gives (asks.Tree n) slots streams result = GivesTree n slots result
 Gives (asks.Copy version from to) slots streams result = OfDevice slots from (λ source. OfDevice slots to (λ target. GivesCopy version result source target))
 Gives (asks.Salvage from to) slots streams result = OfDevice slots from (λ source. OfDevice slots to (λ target. GivesSalvage result source target))
 Gives (asks.Check set files) slots streams result = GivesCheck (rules_of set) files slots result

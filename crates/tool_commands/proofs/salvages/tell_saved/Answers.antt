@@ -1,4 +1,4 @@
-use Rattle.std.proofs.Common.{refl, arith, sym, ◌∙◌}
+use Rattle.std.proofs.Common.{arith}
 use Rattle.tool_commands.proofs.SalvageLaws.{begins, goes_on, tears, ends, lacks}
 use Rattle.tool_commands.proofs.salvages.tell_saved.Goals as goal
 
