@@ -164,7 +164,7 @@ fn names(space: &mut Bytes, core: &Core, serial: u64, name: &[u8]) -> Result<(),
     if !core.rows.are_near(core.wide) {
         return Err(NOT_CALLED);
     }
-    rename(space, core, NodeId { file: 0, serial }, name)
+    rename(space, core, NodeId { file: 0, serial }, name, None)
 }
 
 fn creates(
@@ -177,7 +177,7 @@ fn creates(
     if !core.rows.are_near(core.wide) {
         return Err(NOT_CALLED);
     }
-    create(space, core, NodeId { file: 0, serial }, name, label)
+    create(space, core, NodeId { file: 0, serial }, name, label, None)
 }
 
 fn links(
@@ -199,6 +199,7 @@ fn links(
         name,
         to.0,
         to.1,
+        None,
     )
 }
 
@@ -210,7 +211,7 @@ fn moves(space: &mut Bytes, core: &mut Core, serial: u64, to: u64) -> Result<(),
         file: 0,
         serial: to,
     };
-    move_to(space, core, NodeId { file: 0, serial }, to)
+    move_to(space, core, NodeId { file: 0, serial }, to, None)
 }
 
 // Whether a node stands below another at a depth.

@@ -1,17 +1,20 @@
 //! The child of a name, and the answer to a query on a node.
 
-ghost use Rattle.std.specs.Prelude.{◌≡◌, List, true, map, Ok, IfOk, IfErr, IsSome, Some};
+ghost use Rattle.std.specs.Prelude.{◌≡◌, ◌+◌, ◌≤◌, ◌^◌, List, true, map, Ok, IfOk, IfErr, IsSome, Some, ⊥};
 ghost use Rattle.adf_format.specs.Names.{is_name};
+ghost use Rattle.adf_format.specs.RecordFields.{node_length};
 ghost use Rattle.adf_format.specs.Tree.{child_named};
 ghost use Rattle.adf_model.specs.declared.tree.Child.{Child};
 ghost use Rattle.adf_model.specs.declared.tree.NodeId.{NodeId};
 ghost use Rattle.adf_model.specs.declared.tree.Query.{Query};
 ghost use Rattle.adf_model.specs.declared.tree.Reply.{Reply};
 ghost use Rattle.adf_model.specs.Answers.{field_within, IsReplyTo};
-ghost use Rattle.cg_io.specs.Answers.{AnswersRead};
-ghost use Rattle.kept_names.specs.Kept.{AreKept, Children, list_at};
+ghost use Rattle.cg_io.specs.Answers.{AnswersRead, OnlyReads};
+ghost use Rattle.kept_names.specs.Kept.{AreKept, Children, list_at, total};
+ghost use Rattle.node_reads.specs.Reads.{IsUnread};
 ghost use Rattle.tree_edits.specs.Rows.{AreNear, row_of};
 ghost use Rattle.tree_edits.specs.Listed.{IsTableOf, ReadsTable};
+ghost use Rattle.tree_asks.specs.Headers.{HeaderSays};
 ghost use Rattle.tree_asks.specs.Told.{Tells};
 ghost use Rattle.tree_asks.specs.Causes.{AskReads, AtRow, IsChildCause};
 ghost use Rattle.tree_asks.specs.Known.{IsKnown};
@@ -21,8 +24,8 @@ ghost use Rattle.kept_asks.specs.Named.{HasNames, NamesStay, kept_child};
 use crate::lists::{answered, listed};
 use adf_model::{AdfError, Child, Listing, NodeId, Query, Reply, is_name};
 use cg_io::{ReadBytes, Space};
-use kept_names::Names;
-use node_reads::name_field;
+use kept_names::{MOST_NAMES, Names};
+use node_reads::{name_field, read_header};
 use std::alloc::Global;
 use tree_asks::{Hints, answer_at as read_answer, child_at as read_child};
 use tree_edits::Core;
@@ -188,5 +191,67 @@ pub fn answer_at<S: Space>(
     match query {
         Query::ChildrenOf { node } => { children_at(alloc, space, core, hints, names, at, *node) }
         _ => read_answer(alloc, space, core, hints, at, query),
+    }
+}
+
+// Whether the children of the node at a place may be kept beside those of others. Its header is read for their number.
+fn is_room<R: ReadBytes>(
+    bytes: &mut R,
+    core: &Core,
+    names: &Names,
+    place: u64,
+) -> Result<bool, AdfError>
+    requires sound { R.is_sound bytes.old }
+    requires near { place + node_length core.now.wide ≤ 2 ^ 44 }
+    ensures room { IfOk result (λ room. room ≡ true
+        → HeaderSays core.now.wide (R.image bytes.old) place
+        (λ header. total names.now + header.children ≤ 2 ^ 20)) }
+    ensures reads { AnswersRead R.is_sound R.image R.state R.waiting OnlyReads
+        (IsUnread (λ rule place. ⊥)) bytes.old bytes.new result }
+{
+    match read_header(bytes, core.wide, place) {
+        Ok(header) => Ok(header.children as usize <= MOST_NAMES - names.len()),
+        Err(AdfError::ReadFault) => Err(AdfError::ReadFault),
+        Err(_) => Ok(false),
+    }
+}
+
+/// Keeps the children of a node, where they are not kept yet: its table is read whole.
+///
+/// It is refused where a read fails. Where memory is wanting, where bytes are no layout, where there is no such node, and where too
+/// many names would be kept, nothing more is kept.
+pub fn know_children<S: Space>(
+    alloc: Global,
+    space: &mut S,
+    core: &Core,
+    hints: &Hints,
+    names: &mut Names,
+    at: NodeId,
+) -> Result<(), AdfError>
+    requires sound { S.is_sound space.old }
+    requires near { AreNear core.now.wide core.now.rows.items }
+    requires names { HasNames core.now (S.image space.old) names.old }
+    ensures names { NamesStay core.now (S.image space.old) names.old names.new }
+    ensures reads { AnswersRead S.is_sound S.image S.state S.waiting OnlyReads
+        (IsUnread (λ rule place. ⊥)) space.old space.new result }
+    ensures live { IfErr result (λ e. IsSome (row_of core.now.rows.items at.serial)) }
+    ensures still { IsSome (list_at names.old at.serial) → space.new ≡ space.old }
+{
+    let row = match core.rows.get(at.serial) {
+        Some(row) => row,
+        None => return Ok(()),
+    };
+    match names.list(at.serial) {
+        Some(_) => return Ok(()),
+        None => {}
+    }
+    match is_room(space, core, names, row.place) {
+        Ok(true) => {}
+        Ok(false) => return Ok(()),
+        Err(error) => return Err(error),
+    }
+    match read_children(alloc, space, core, hints, names, at, at) {
+        Err(AdfError::ReadFault) => Err(AdfError::ReadFault),
+        _ => Ok(()),
     }
 }

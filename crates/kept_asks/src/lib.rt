@@ -8,4 +8,4 @@
 mod asks;
 mod lists;
 
-pub use asks::{answer_at, child_at};
+pub use asks::{answer_at, child_at, know_children};

@@ -57,7 +57,7 @@ module _ (image : List ℕ) (core : Core) (serial : ℕ) (row : Row) (found : ro
   abbrev pub own : TheNode image tree p serial row.place
   own = the_node image (memory_of core) serial row found tree p m
 
-  abbrev kids : List ℕ
+  abbrev pub kids : List ℕ
   kids = own.node.children
 
   pub kids_are : children_at tree serial ≡ kids
@@ -100,10 +100,11 @@ module _ (image : List ℕ) (core : Core) (serial : ℕ) (row : Row) (found : ro
           let count = count_is in
           omega (arith, many, place, ends, end, count)
 
-  named : (name : List ℕ) → is_name name ≡ true → (i c : ℕ) → slice_get kids i ≡ Some c → bytes_eq (entry_name image table.place i) (text_field 32 name) ≡ bytes_eq (name_at tree c) name
-  named name good i c listed = by_table own.parts.table refl
+  -- the entry of a child has the field of its name
+  pub entry_says : (i c : ℕ) → slice_get kids i ≡ Some c → (entry_name image table.place i ≡ text_field 32 (name_at tree c)) × (is_name (name_at tree c) ≡ true)
+  entry_says i c listed = by_table own.parts.table refl
     where
-      by_table : (o : Option TablePart) → own.parts.table ≡ o → bytes_eq (entry_name image table.place i) (text_field 32 name) ≡ bytes_eq (name_at tree c) name
+      by_table : (o : Option TablePart) → own.parts.table ≡ o → (entry_name image table.place i ≡ text_field 32 (name_at tree c)) × (is_name (name_at tree c) ≡ true)
       by_table None e =
           let none : kids ≡ [] = subst (λ (o : Option TablePart). HasTable image tree p own.node o) e held.table in
           absurd (not_there c (subst (λ xs. slice_get xs i ≡ Some c) none listed))
@@ -114,12 +115,17 @@ module _ (image : List ℕ) (core : Core) (serial : ℕ) (row : Row) (found : ro
           let at = there (parts_of p c) (live_parts image tree p m.laid_out c ∙ live) in
           let is : IsNodeOf image tree p c its.0 at.0 = record { laid_out = m.laid_out; live = its.1; stands = at.1 } in
           let entry = entries_are_children image tree p serial own.node own.parts t i c its.0 at.0 own.is e listed is in
-          let says_name : entry_name image table.place i ≡ text_field 32 its.0.name = ap (λ k. entry_name image k i) (place_is (Some t) e) ∙ entry.0 in
-          let name_is : name_at tree c ≡ its.0.name = ap name_of its.1 in
-          let fine = (m.laid_out.is_tree.each c its.0 its.1).named in
-          same_test (bytes_eq (entry_name image table.place i) (text_field 32 name)) (bytes_eq (name_at tree c) name)
-          (λ h. (bytes_eq-Decides (name_at tree c) name).1 (name_is ∙ same_names its.0.name name fine good (sym says_name ∙ (bytes_eq-Decides (entry_name image table.place i) (text_field 32 name)).0 h)))
-          (λ h. (bytes_eq-Decides (entry_name image table.place i) (text_field 32 name)).1 (says_name ∙ ap (text_field 32) (sym name_is ∙ (bytes_eq-Decides (name_at tree c) name).0 h)))
+          let name_is : name_at tree c ≡ its.0.name = ap name_of its.1 in (
+            ap (λ k. entry_name image k i) (place_is (Some t) e) ∙ entry.0 ∙ ap (text_field 32) (sym name_is),
+            ap is_name name_is ∙ (m.laid_out.is_tree.each c its.0 its.1).named,
+          )
+
+  named : (name : List ℕ) → is_name name ≡ true → (i c : ℕ) → slice_get kids i ≡ Some c → bytes_eq (entry_name image table.place i) (text_field 32 name) ≡ bytes_eq (name_at tree c) name
+  named name good i c listed =
+      let says = entry_says i c listed in
+      same_test (bytes_eq (entry_name image table.place i) (text_field 32 name)) (bytes_eq (name_at tree c) name)
+      (λ h. (bytes_eq-Decides (name_at tree c) name).1 (same_names (name_at tree c) name says.1 good (sym says.0 ∙ (bytes_eq-Decides (entry_name image table.place i) (text_field 32 name)).0 h)))
+      (λ h. (bytes_eq-Decides (entry_name image table.place i) (text_field 32 name)).1 (says.0 ∙ ap (text_field 32) ((bytes_eq-Decides (name_at tree c) name).0 h)))
 
   first_in : (name : List ℕ) (o : Option ℕ) → FindsFirst (Some image) table (Name (text_field 32 name)) o → IsFirst (is_wanted_at (Name (text_field 32 name)) image table.place) 0 (length kids) o
   first_in name o f = subst (λ k. IsFirst (is_wanted_at (Name (text_field 32 name)) image table.place) 0 k o) count_is (f fits)

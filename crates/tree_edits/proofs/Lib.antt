@@ -10,6 +10,8 @@ pub mod NameCauses
 pub mod UndoLaws
 pub mod NameWritten
 pub mod Rooms
+pub mod KnownNames
+pub mod TableReads
 pub mod Kids
 pub mod RoomCauses
 pub mod PutTwice

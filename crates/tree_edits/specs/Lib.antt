@@ -3,6 +3,7 @@ pub mod Undo
 pub mod Edits
 pub mod Causes
 pub mod Listed
+pub mod Known
 pub mod Names
 pub mod Room
 pub mod Taken

@@ -13,6 +13,7 @@ ghost use Rattle.cg_io.specs.Answers.{AnswersWrite, IsRefusal, IsUntold, OnlyRea
 ghost use Rattle.cg_io.specs.Blocks.{Both, ReadsFew};
 ghost use Rattle.tree_edits.specs.Rows.{AreNear, Means};
 ghost use Rattle.tree_edits.specs.Edits.{Does, Refuses, KeepsCore, memory_of};
+ghost use Rattle.tree_edits.specs.Known.{ListsChildren};
 ghost use Rattle.tree_edits.specs.Taken.{IsReady, FillsWith, TakesText, KeepsHeap, LacksBytes, IsRoomless};
 ghost use Rattle.field_access.specs.Fields.{WaitsWithin, range};
 ghost use Rattle.tree_edits.specs.Waiting.{TakesInRoom, IfTold, Reaches};
@@ -29,6 +30,7 @@ use cg_io::Space;
 use disk_ptr::DiskPtr;
 use field_access::write_field;
 use file_heap::Heap;
+use kept_names::Listed;
 use node_reads::name_field;
 
 // The header of a node without shape, data and children.
@@ -132,18 +134,22 @@ fn make_header<S: Space>(
     }
 }
 
-/// Makes a node without shape, data and children, the last child of another: its serial.
+/// Makes a node without shape, data and children, the last child of another: its serial. `known` are the children of that other, where
+/// they are kept: none of its entries is read then.
 pub fn create<S: Space>(
     space: &mut S,
     core: &mut Core,
     at: NodeId,
     name: &[u8],
     label: &[u8],
+    known: Option<&Listed>,
 ) -> Result<u64, AdfError>
     requires sound { S.is_sound space.old }
     requires near { AreNear core.old.wide core.old.rows.items }
     requires means { IfSome (S.image space.old)
         (λ bytes. (tree : Tree) × (p : Placement) × Means bytes tree p (memory_of core.old)) }
+    requires known { IfSome known (λ list. ListsChildren core.old (S.image space.old) at.serial
+        list.now) }
     ensures done { OnOk result (Both (Does (Edit.Create at name.now label.now) core.old core.new)
         (S.image space.old) (S.image space.new)) }
     ensures reached { OnOk result (IfSome (S.image space.old)
@@ -160,7 +166,7 @@ pub fn create<S: Space>(
         (IsCreateCause core.old at name.now label.now (S.image space.old))
         space.old space.new result }
 {
-    let parent = match find_room(space, core, at, name, label) {
+    let parent = match find_room(space, core, at, name, label, known) {
         Ok(parent) => parent,
         Err(error) => return Err(error),
     };

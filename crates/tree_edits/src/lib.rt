@@ -8,6 +8,7 @@
 mod chunk;
 mod creation;
 mod join;
+mod known;
 mod label;
 mod leave;
 mod link_parts;
@@ -22,6 +23,7 @@ mod rows;
 
 pub use creation::create;
 pub use join::join_unused;
+pub use known::find_name;
 pub use label::{is_link, set_label};
 pub use leave::{leave_list, move_up};
 pub use link_rooms::take_table;

@@ -11,6 +11,7 @@ ghost use Rattle.cg_io.specs.Answers.{AnswersRead, AnswersWrite, OnlyReads};
 ghost use Rattle.cg_io.specs.Blocks.{Both};
 ghost use Rattle.tree_edits.specs.Rows.{AreNear, Means};
 ghost use Rattle.tree_edits.specs.Edits.{Does, Refuses, KeepsCore, memory_of};
+ghost use Rattle.tree_edits.specs.Known.{ListsChildren};
 ghost use Rattle.tree_edits.specs.Listed.{ReadsTable, IsTableOf};
 ghost use Rattle.tree_edits.specs.Waiting.{Reaches};
 ghost use Rattle.tree_edits.specs.Linkable.{MayLink, IsLinkable, IsLinkRoomCause, IsLinkCause, LinksWithin, link_error};
@@ -22,6 +23,7 @@ use crate::rows::Row;
 use adf_links::join_link;
 use adf_model::{AdfError, NodeId, Text};
 use cg_io::Space;
+use kept_names::Listed;
 use std::alloc::Global;
 
 /// A node that may get a link, and the text of that link.
@@ -66,9 +68,12 @@ fn find_link_room<S: Space>(
     name: &[u8],
     file: &[u8],
     path: &[u8],
+    known: Option<&Listed>,
 ) -> Result<LinkRoom, AdfError>
     requires sound { S.is_sound space.old }
     requires near { AreNear core.now.wide core.now.rows.items }
+    requires known { IfSome known (λ list. ListsChildren core.now (S.image space.old) at.serial
+        list.now) }
     ensures room { IfOk result (λ room. MayLink core.now at name.now file.now path.now
         (S.image space.old) room.parent) }
     ensures text { IfOk result (λ room. room.text ≡ link_text file.now path.now) }
@@ -83,7 +88,7 @@ fn find_link_room<S: Space>(
         space.old space.new result }
 {
     let joined = join_link(alloc, file, path);
-    let parent = match find_room(space, core, at, name, b"") {
+    let parent = match find_room(space, core, at, name, b"", known) {
         Ok(parent) => parent,
         Err(error) => return Err(link_error(error, is_linked(&joined))),
     };
@@ -93,7 +98,8 @@ fn find_link_room<S: Space>(
     }
 }
 
-/// Makes a link to a path in a file, the last child of a node: its serial. An empty file is the link's own.
+/// Makes a link to a path in a file, the last child of a node: its serial. An empty file is the link's own. `known` are the children of
+/// that node, where they are kept.
 pub fn link<S: Space>(
     alloc: Global,
     space: &mut S,
@@ -102,11 +108,14 @@ pub fn link<S: Space>(
     name: &[u8],
     file: &[u8],
     path: &[u8],
+    known: Option<&Listed>,
 ) -> Result<u64, AdfError>
     requires sound { S.is_sound space.old }
     requires near { AreNear core.old.wide core.old.rows.items }
     requires means { IfSome (S.image space.old)
         (λ bytes. (tree : Tree) × (p : Placement) × Means bytes tree p (memory_of core.old)) }
+    requires known { IfSome known (λ list. ListsChildren core.old (S.image space.old) at.serial
+        list.now) }
     ensures done { OnOk result (Both (Does (Edit.Link at name.now file.now path.now) core.old
         core.new) (S.image space.old) (S.image space.new)) }
     ensures reached { OnOk result (IfSome (S.image space.old)
@@ -124,7 +133,7 @@ pub fn link<S: Space>(
         (IsLinkCause core.old at name.now file.now path.now (S.image space.old))
         space.old space.new result }
 {
-    let room = match find_link_room(alloc, space, core, at, name, file, path) {
+    let room = match find_link_room(alloc, space, core, at, name, file, path, known) {
         Ok(room) => room,
         Err(error) => return Err(error),
     };

@@ -10,11 +10,13 @@ ghost use Rattle.cg_io.specs.Blocks.{Both, ReadsFew};
 ghost use Rattle.tree_laws.specs.MidEdit.{Puts};
 ghost use Rattle.tree_edits.specs.Rows.{AreNear};
 ghost use Rattle.tree_edits.specs.Edits.{Does, Refuses};
+ghost use Rattle.tree_edits.specs.Known.{ListsSiblings};
 ghost use Rattle.tree_edits.specs.Listed.{ReadsTable, is_another};
 ghost use Rattle.field_access.specs.Fields.{WaitsWithin, range};
 ghost use Rattle.tree_edits.specs.Waiting.{Reaches};
 ghost use Rattle.tree_edits.specs.Names.{IsNameCause, IsTableAbove, MayRename};
 
+use crate::known::find_name;
 use crate::listed::find_listed;
 use crate::memory::Core;
 use adf_chunks::{NodeEntry, encode_entry};
@@ -23,7 +25,8 @@ use adf_model::{AdfError, NodeId, is_name};
 use cg_io::Space;
 use disk_ptr::from_place;
 use field_access::write_field;
-use node_reads::{Wanted, find_entry, name_field};
+use kept_names::Listed;
+use node_reads::name_field;
 
 // Whether what was found is an entry, and another than the one at a position.
 fn is_another(found: Option<u32>, position: u32) -> bool
@@ -64,15 +67,18 @@ fn write_name<S: Space>(
     write_field(space, entry, &text)
 }
 
-/// Gives a node another name. It keeps its place among the children of its parent.
+/// Gives a node another name. It keeps its place among the children of its parent. `known` are these, where they are kept.
 pub fn rename<S: Space>(
     space: &mut S,
     core: &Core,
     node: NodeId,
     name: &[u8],
+    known: Option<&Listed>,
 ) -> Result<(), AdfError>
     requires sound { S.is_sound space.old }
     requires near { AreNear core.now.wide core.now.rows.items }
+    requires known { IfSome known (λ list. ListsSiblings core.now (S.image space.old)
+        node.serial list.now) }
     ensures done { OnOk result (Both (Does (Edit.Rename node name.now) core.now core.now)
         (S.image space.old) (S.image space.new)) }
     ensures reached { OnOk result (IfSome (S.image space.old)
@@ -104,7 +110,7 @@ pub fn rename<S: Space>(
         Ok(listed) => listed,
         Err(error) => return Err(error),
     };
-    let found = match find_entry(space, listed.table, &Wanted::Name(field)) {
+    let found = match find_name(space, listed.table, &field, known) {
         Ok(found) => found,
         Err(_) => return Err(AdfError::ReadFault),
     };

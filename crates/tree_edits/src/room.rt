@@ -1,6 +1,6 @@
 //! Whether a node may get a new child.
 
-ghost use Rattle.std.specs.Prelude.{◌≡◌, ◌^◌, ◌+◌, ◌*◌, ◌≤◌, ◌<◌, IfErr, IfOk, IfSome, OnOk};
+ghost use Rattle.std.specs.Prelude.{◌≡◌, ◌^◌, ◌+◌, ◌*◌, ◌≤◌, ◌<◌, length, IfErr, IfOk, IfSome, OnOk};
 ghost use Rattle.adf_format.specs.RecordFields.{table_length};
 ghost use Rattle.adf_model.specs.declared.tree.Edit.{Edit};
 ghost use Rattle.cg_io.specs.Answers.{AnswersRead};
@@ -8,16 +8,19 @@ ghost use Rattle.cg_io.specs.Blocks.{ReadsFew};
 ghost use Rattle.node_reads.specs.Entries.{pieces_of};
 ghost use Rattle.tree_edits.specs.Rows.{AreNear};
 ghost use Rattle.tree_edits.specs.Edits.{Refuses};
+ghost use Rattle.tree_edits.specs.Known.{ListsChildren};
 ghost use Rattle.tree_edits.specs.Listed.{ReadsTable, IsTableOf};
 ghost use Rattle.tree_edits.specs.Room.{MayCreate, IsRoomCause, HasRoom, IsRoomRefusal};
 
+use crate::known::find_name;
 use crate::label::is_link;
 use crate::memory::Core;
 use crate::rows::Row;
 use adf_format::limits::{DEEPEST, MOST_CHILDREN};
 use adf_model::{AdfError, NodeId, is_label, is_name};
 use cg_io::Space;
-use node_reads::{ChildTable, Wanted, child_table, find_entry, name_field, read_header};
+use kept_names::Listed;
+use node_reads::{ChildTable, child_table, name_field, read_header};
 
 /// A node that may get a new child, and its table of children.
 #[derive(Clone, Copy, Drop)]
@@ -48,22 +51,27 @@ fn room_for(row: Row, table: ChildTable, drawn: u64) -> Result<(), AdfError>
     Ok(())
 }
 
-/// The node that may get a new child with a name and a label.
+/// The node that may get a new child with a name and a label. Where its children are known, no entry of its table is read.
 pub(crate) fn find_room<S: Space>(
     space: &mut S,
     core: &Core,
     at: NodeId,
     name: &[u8],
     label: &[u8],
+    known: Option<&Listed>,
 ) -> Result<Parent, AdfError>
     requires sound { S.is_sound space.old }
     requires near { AreNear core.now.wide core.now.rows.items }
+    requires known { IfSome known (λ list. ListsChildren core.now (S.image space.old) at.serial
+        list.now) }
     ensures room { IfOk result (MayCreate core.now at name.now label.now (S.image space.old)) }
     ensures within { IfOk result (λ parent. parent.table.place
         + table_length parent.table.entries ≤ 2 ^ 44) }
     ensures few { IfOk result (λ parent. parent.table.count ≤ parent.table.entries) }
     ensures soon { IfOk result (λ parent. ReadsFew (2 * pieces_of parent.table.count + 2)
         (S.state space.old) (S.state space.new)) }
+    ensures still { IfOk result (λ parent. IfSome known.entry (λ list.
+        length list.now ≡ parent.table.count → ReadsFew 2 (S.state space.old) (S.state space.new))) }
     ensures refused { IfErr result (λ e. IfSome (S.image space.old)
         (Refuses (Edit.Create at name.now label.now) core.now e)) }
     ensures reads { AnswersRead S.is_sound S.image S.state S.waiting
@@ -95,7 +103,7 @@ pub(crate) fn find_room<S: Space>(
         Ok(table) => table,
         Err(error) => return Err(error),
     };
-    match find_entry(space, table, &Wanted::Name(name_field(name))) {
+    match find_name(space, table, &name_field(name), known) {
         Ok(None) => {}
         Ok(Some(_)) => return Err(AdfError::Duplicate),
         Err(_) => return Err(AdfError::ReadFault),

@@ -16,7 +16,7 @@ use Rattle.tree_edits.specs.declared.memory.Core.{Core}
 use Rattle.tree_edits.specs.declared.room.Parent.{Parent}
 use Rattle.tree_edits.specs.declared.rows.Row.{Row}
 use Rattle.tree_edits.specs.Causes.{named_row}
-use Rattle.tree_edits.specs.Listed.{NamesTable, TableBreaks, IsUnlisted}
+use Rattle.tree_edits.specs.Listed.{IsTableOf, NamesTable, TableBreaks, IsUnlisted}
 use Rattle.tree_edits.specs.Room.{SaysKind}
 use Rattle.tree_edits.specs.Rows.{AreNear, row_of}
 use Rattle.tree_edits.proofs.Causes.{row_there}
@@ -134,3 +134,9 @@ module _ (core : Core) (node at : NodeId) (held : Option (List ℕ)) where
 pub looks_again : (held mid : Option (List ℕ)) (to other : Parent) (name : List ℕ) (own its : Option ℕ) (clash found : Bool) → mid ≡ held → to ≡ other → own ≡ its → clash ≡ found → LooksUp mid to.table name own clash → LooksUp held other.table name its found
 looks_again held mid to other name own its clash found a b c d l =
     subst (λ x. LooksUp held other.table name its x) d (subst (λ x. LooksUp held other.table name x clash) c (subst (λ (x : Parent). LooksUp held x.table name own clash) b (subst (λ x. LooksUp x to.table name own clash) a l)))
+
+-- the table that a node joins is that of its new parent
+pub list_is : (core : Core) (at : NodeId) (held : Option (List ℕ)) (row : Row) (target : Parent) → IsTarget core at held target → (parent : ℕ) (source : Source) → IsSource core held row parent source → (last : Bool) → last ≡ (parent == at.serial)
+    → IsTableOf core held at.serial (if last then source.listed.table else target.table)
+list_is core at held row target is parent source from true same = subst (λ (n : ℕ). IsTableOf core held n source.listed.table) (equal parent at.serial (sym same)) from.listed.table
+list_is core at held row target is parent source from false same = record { above = target.row; found = is.node.found; named = is.named_by }

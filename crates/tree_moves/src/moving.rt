@@ -8,6 +8,7 @@ ghost use Rattle.cg_io.specs.Answers.{AnswersWrite, OnlyReads};
 ghost use Rattle.cg_io.specs.Blocks.{Both};
 ghost use Rattle.tree_edits.specs.Rows.{AreNear, Means};
 ghost use Rattle.tree_edits.specs.Edits.{Does, Refuses, KeepsCore, memory_of};
+ghost use Rattle.tree_edits.specs.Known.{ListsChildren};
 ghost use Rattle.tree_edits.specs.Waiting.{Reaches};
 ghost use Rattle.tree_moves.specs.Movable.{IsMovable, IsMoveCause};
 ghost use Rattle.tree_moves.specs.Moved.{MovesWithin};
@@ -17,19 +18,24 @@ use crate::lists::relist;
 use crate::place::find_move;
 use adf_model::{AdfError, NodeId};
 use cg_io::Space;
+use kept_names::Listed;
 use tree_edits::Core;
 
-/// Moves a node with all below it: it becomes the last child of another node, or of its own parent.
+/// Moves a node with all below it: it becomes the last child of another node, or of its own parent. `known` are the children of that
+/// node, where they are kept.
 pub fn move_to<S: Space>(
     space: &mut S,
     core: &mut Core,
     node: NodeId,
     at: NodeId,
+    known: Option<&Listed>,
 ) -> Result<(), AdfError>
     requires sound { S.is_sound space.old }
     requires near { AreNear core.old.wide core.old.rows.items }
     requires means { IfSome (S.image space.old)
         (λ bytes. (tree : Tree) × (p : Placement) × Means bytes tree p (memory_of core.old)) }
+    requires known { IfSome known (λ list. ListsChildren core.old (S.image space.old) at.serial
+        list.now) }
     ensures done { OnOk result (Both (Does (Edit.Move node at) core.old core.new)
         (S.image space.old) (S.image space.new)) }
     ensures reached { OnOk result (IfSome (S.image space.old) (Reaches (Edit.Move node at)
@@ -43,7 +49,7 @@ pub fn move_to<S: Space>(
         × AnswersWrite S.is_sound S.state S.waiting n OnlyReads
         (IsMoveCause core.old node at (S.image space.old)) space.old space.new result }
 {
-    let its = match find_move(space, core, node, at) {
+    let its = match find_move(space, core, node, at, known) {
         Ok(its) => its,
         Err(error) => return Err(error),
     };

@@ -1,10 +1,11 @@
 //! Whether a node may move below another.
 
-ghost use Rattle.std.specs.Prelude.{◌≡◌, ◌≤◌, ◌^◌, ◌+◌, ◌*◌, if◌then◌else◌, IfOk, IfErr, OnOk};
+ghost use Rattle.std.specs.Prelude.{◌≡◌, ◌≤◌, ◌^◌, ◌+◌, ◌*◌, if◌then◌else◌, IfOk, IfErr, IfSome, OnOk};
 ghost use Rattle.adf_format.specs.RecordFields.{node_length, table_length};
 ghost use Rattle.cg_io.specs.Answers.{AnswersRead, OnlyReads};
 ghost use Rattle.cg_io.specs.Blocks.{ReadsFew};
 ghost use Rattle.node_reads.specs.Reads.{IsUnread};
+ghost use Rattle.tree_edits.specs.Known.{ListsChildren, ListsTable};
 ghost use Rattle.tree_edits.specs.Rows.{AreNear};
 ghost use Rattle.tree_moves.specs.Movable.{IsTarget, IsTargetCause, LeavesParent, LacksParent, IsSource, SourceBreaks, clashes, own_entry, LooksUp, IsMoveNear, HasMoveRoom, LacksMoveRoom, MayMove, IsPlaceCause};
 
@@ -12,8 +13,9 @@ use crate::depths::{deepest, is_below};
 use adf_format::limits::{DEEPEST, MOST_CHILDREN};
 use adf_model::{AdfError, NodeId};
 use cg_io::Space;
-use node_reads::{ChildTable, Wanted, child_table, find_entry, read_header};
-use tree_edits::{Core, Listed, Parent, Row, find_listed, is_link};
+use kept_names::Listed as Names;
+use node_reads::{ChildTable, child_table, read_header};
+use tree_edits::{Core, Listed, Parent, Row, find_listed, find_name, is_link};
 
 /// Where a node is listed, and its name.
 #[derive(Clone, Copy, Drop)]
@@ -161,14 +163,16 @@ fn is_taken<S: Space>(
     table: ChildTable,
     name: [u8; 32],
     own: Option<u32>,
+    known: Option<&Names>,
 ) -> Result<bool, AdfError>
     requires sound { S.is_sound space.old }
     requires within { table.place + 16 + 44 * table.count ≤ 2 ^ 44 }
+    requires known { IfSome known (λ list. ListsTable (S.image space.old) table list.now) }
     ensures taken { IfOk result (LooksUp (S.image space.old) table name own) }
     ensures reads { AnswersRead S.is_sound S.image S.state S.waiting OnlyReads
         (IsUnread (λ rule place. ⊥)) space.old space.new result }
 {
-    match find_entry(space, table, &Wanted::Name(name)) {
+    match find_name(space, table, &name, known) {
         Ok(found) => Ok(clashes(found, own)),
         Err(_) => Err(AdfError::ReadFault),
     }
@@ -195,9 +199,12 @@ pub(crate) fn find_move<S: Space>(
     core: &Core,
     node: NodeId,
     at: NodeId,
+    known: Option<&Names>,
 ) -> Result<Move, AdfError>
     requires sound { S.is_sound space.old }
     requires near { AreNear core.now.wide core.now.rows.items }
+    requires known { IfSome known (λ list. ListsChildren core.now (S.image space.old) at.serial
+        list.now) }
     ensures may { IfOk result (MayMove core.now node at (S.image space.old)) }
     ensures near { IfOk result IsMoveNear }
     ensures reads { AnswersRead S.is_sound S.image S.state S.waiting OnlyReads
@@ -222,7 +229,7 @@ pub(crate) fn find_move<S: Space>(
     let last = parent == at.serial;
     let to = with_list(target, source.listed, last);
     let own = own_entry(source.listed, last);
-    let taken = match is_taken(space, to.table, source.name, own) {
+    let taken = match is_taken(space, to.table, source.name, own, known) {
         Ok(taken) => taken,
         Err(error) => return Err(error),
     };

@@ -6,6 +6,7 @@ use Rattle.tree_edits.proofs.NameCauses.{unlisted_cause, looked, write_cause, on
 use Rattle.cg_io.specs.Waits.{how_many}
 use Rattle.tree_edits.proofs.Reaching.{name_reached}
 use Rattle.std.proofs.lemmas.Result.{on_ok_weaker}
+use Rattle.tree_edits.proofs.KnownNames.{known_siblings, known_table}
 use Rattle.tree_edits.proofs.name.rename.Goals as goal
 
 pub returns-in-None-clause-refused : goal.returns-in-None-clause-refused
@@ -39,15 +40,15 @@ returns-in-Err-clause-writes g c =
       cause = unlisted_cause c.args.core.now c.args.node c.args.name.now held c.in-Some.row (sym c.get.ensures ∙ c.in-Some.is) c.in-Some-parent.parent c.in-Some-parent.is c.if-not-core.false good _ _ c.in-Err.error c.in-Err.ensures.reads.cause;
     }
 
-pub returns-in-Err-find_entry-clause-refused : goal.returns-in-Err-find_entry-clause-refused
-returns-in-Err-find_entry-clause-refused g c = refused_fault c.args.core.now c.args.node c.args.name.now c.in-Some.row (sym c.get.ensures ∙ c.in-Some.is) (g.S.ReadBytes.image c.args.space.now)
+pub returns-in-Err-find_name-clause-refused : goal.returns-in-Err-find_name-clause-refused
+returns-in-Err-find_name-clause-refused g c = refused_fault c.args.core.now c.args.node c.args.name.now c.in-Some.row (sym c.get.ensures ∙ c.in-Some.is) (g.S.ReadBytes.image c.args.space.now)
 
 pub returns-then-is_another-clause-refused : goal.returns-then-is_another-clause-refused
 returns-then-is_another-clause-refused g c =
     let held = g.S.ReadBytes.image c.args.space.now in
     refused_taken c.args.core.now c.args.node c.args.name.now c.in-Some.row (sym c.get.ensures ∙ c.in-Some.is) c.in-Some-parent.parent c.in-Some-parent.is c.if-not-core.false (sym c.is_name.ensures ∙ c.if-not-is_name.false) c.in-Ok.listed
-    c.in-Ok-find_entry.found held c.in-Ok.ensures.listed
-    (first_held c.args.name.now c.name_field-field.result c.in-Ok.listed.table c.in-Ok-find_entry.found held (g.S.ReadBytes.image c.find_listed.new.space) c.in-Ok.ensures.reads.bytes c.name_field-field.ensures c.in-Ok-find_entry.ensures.told)
+    c.in-Ok-find_name.found held c.in-Ok.ensures.listed
+    (first_held c.args.name.now c.name_field-field.result c.in-Ok.listed.table c.in-Ok-find_name.found held (g.S.ReadBytes.image c.find_listed.new.space) c.in-Ok.ensures.reads.bytes c.name_field-field.ensures c.in-Ok-find_name.ensures.told)
     (sym c.is_another.ensures ∙ c.if-is_another.true)
 
 pub returns-then-is_another-clause-writes : goal.returns-then-is_another-clause-writes
@@ -55,12 +56,12 @@ returns-then-is_another-clause-writes g c =
     let held = g.S.ReadBytes.image c.args.space.now in
     let good = sym c.is_name.ensures ∙ c.if-not-is_name.false in
     record {
-      sound = c.in-Ok-find_entry.ensures.reads.sound;
-      waits = omega (arith, ap how_many c.in-Ok.ensures.reads.waits, ap how_many c.in-Ok-find_entry.ensures.reads.waits);
+      sound = c.in-Ok-find_name.ensures.reads.sound;
+      waits = omega (arith, ap how_many c.in-Ok.ensures.reads.waits, ap how_many c.in-Ok-find_name.ensures.reads.waits);
       effect = twice_read c.args.core.now c.args.node c.args.name.now held c.in-Some.row (sym c.get.ensures ∙ c.in-Some.is) c.in-Some-parent.parent c.in-Some-parent.is c.if-not-core.false good c.in-Ok.listed.table c.in-Ok.ensures.listed.table 0 (omega arith) _ _ _
-          c.in-Ok.ensures.soon (reads_more _ _ _ _ c.in-Ok-find_entry.ensures.reads.effect (omega arith));
-      cause = looked c.args.core.now c.args.node c.args.name.now held c.in-Some.row (sym c.get.ensures ∙ c.in-Some.is) c.in-Some-parent.parent c.in-Some-parent.is c.if-not-core.false good c.in-Ok.listed c.in-Ok.ensures.listed c.in-Ok-find_entry.found
-          (first_held c.args.name.now c.name_field-field.result c.in-Ok.listed.table c.in-Ok-find_entry.found held (g.S.ReadBytes.image c.find_listed.new.space) c.in-Ok.ensures.reads.bytes c.name_field-field.ensures c.in-Ok-find_entry.ensures.told)
+          c.in-Ok.ensures.soon (reads_more _ _ _ _ c.in-Ok-find_name.ensures.reads.effect (omega arith));
+      cause = looked c.args.core.now c.args.node c.args.name.now held c.in-Some.row (sym c.get.ensures ∙ c.in-Some.is) c.in-Some-parent.parent c.in-Some-parent.is c.if-not-core.false good c.in-Ok.listed c.in-Ok.ensures.listed c.in-Ok-find_name.found
+          (first_held c.args.name.now c.name_field-field.result c.in-Ok.listed.table c.in-Ok-find_name.found held (g.S.ReadBytes.image c.find_listed.new.space) c.in-Ok.ensures.reads.bytes c.name_field-field.ensures c.in-Ok-find_name.ensures.told)
           true (sym c.is_another.ensures ∙ c.if-is_another.true);
     }
 
@@ -68,17 +69,17 @@ pub returns-clause-done : goal.returns-clause-done
 returns-clause-done g c =
     let held = g.S.ReadBytes.image c.args.space.now in
     done c.args.core.now c.args.node c.args.name.now c.in-Some.row (sym c.get.ensures ∙ c.in-Some.is) c.in-Some-parent.parent c.in-Some-parent.is c.if-not-core.false (sym c.is_name.ensures ∙ c.if-not-is_name.false) c.in-Ok.listed
-    c.in-Ok-find_entry.found c.write_name.result held (g.S.ReadBytes.image c.find_entry.new.bytes) (g.S.ReadBytes.image c.write_name.new.space) c.name_field-field.result c.entry.result c.in-Ok.ensures.listed
-    (first_held c.args.name.now c.name_field-field.result c.in-Ok.listed.table c.in-Ok-find_entry.found held (g.S.ReadBytes.image c.find_listed.new.space) c.in-Ok.ensures.reads.bytes c.name_field-field.ensures c.in-Ok-find_entry.ensures.told)
-    (sym c.is_another.ensures ∙ c.if-is_another.false) c.name_field-field.ensures c.entry.ensures (c.in-Ok-find_entry.ensures.reads.bytes ∙ c.in-Ok.ensures.reads.bytes) c.write_name.ensures.written
+    c.in-Ok-find_name.found c.write_name.result held (g.S.ReadBytes.image c.find_name.new.bytes) (g.S.ReadBytes.image c.write_name.new.space) c.name_field-field.result c.entry.result c.in-Ok.ensures.listed
+    (first_held c.args.name.now c.name_field-field.result c.in-Ok.listed.table c.in-Ok-find_name.found held (g.S.ReadBytes.image c.find_listed.new.space) c.in-Ok.ensures.reads.bytes c.name_field-field.ensures c.in-Ok-find_name.ensures.told)
+    (sym c.is_another.ensures ∙ c.if-is_another.false) c.name_field-field.ensures c.entry.ensures (c.in-Ok-find_name.ensures.reads.bytes ∙ c.in-Ok.ensures.reads.bytes) c.write_name.ensures.written
 
 pub returns-clause-allowed : goal.returns-clause-allowed
 returns-clause-allowed g c =
     let held = g.S.ReadBytes.image c.args.space.now in
     where_ok c.write_name.result _
     (looked c.args.core.now c.args.node c.args.name.now held c.in-Some.row (sym c.get.ensures ∙ c.in-Some.is) c.in-Some-parent.parent c.in-Some-parent.is c.if-not-core.false (sym c.is_name.ensures ∙ c.if-not-is_name.false) c.in-Ok.listed
-    c.in-Ok.ensures.listed c.in-Ok-find_entry.found
-    (first_held c.args.name.now c.name_field-field.result c.in-Ok.listed.table c.in-Ok-find_entry.found held (g.S.ReadBytes.image c.find_listed.new.space) c.in-Ok.ensures.reads.bytes c.name_field-field.ensures c.in-Ok-find_entry.ensures.told)
+    c.in-Ok.ensures.listed c.in-Ok-find_name.found
+    (first_held c.args.name.now c.name_field-field.result c.in-Ok.listed.table c.in-Ok-find_name.found held (g.S.ReadBytes.image c.find_listed.new.space) c.in-Ok.ensures.reads.bytes c.name_field-field.ensures c.in-Ok-find_name.ensures.told)
     false (sym c.is_another.ensures ∙ c.if-is_another.false))
 
 pub returns-clause-refused : goal.returns-clause-refused
@@ -92,17 +93,24 @@ returns-clause-writes g c =
     let found = sym c.get.ensures ∙ c.in-Some.is in
     record {
       sound = c.write_name.ensures.writes.sound;
-      waits = omega (arith, ap how_many c.in-Ok.ensures.reads.waits, ap how_many c.in-Ok-find_entry.ensures.reads.waits, c.write_name.ensures.writes.waits);
+      waits = omega (arith, ap how_many c.in-Ok.ensures.reads.waits, ap how_many c.in-Ok-find_name.ensures.reads.waits, c.write_name.ensures.writes.waits);
       effect = twice_read c.args.core.now c.args.node c.args.name.now held c.in-Some.row found c.in-Some-parent.parent c.in-Some-parent.is c.if-not-core.false good c.in-Ok.listed.table c.in-Ok.ensures.listed.table 4 (omega arith) _ _ _
-          c.in-Ok.ensures.soon (reads_then _ 4 _ _ _ _ c.in-Ok-find_entry.ensures.reads.effect c.write_name.ensures.writes.effect (omega arith));
-      cause = write_cause c.args.core.now c.args.node c.args.name.now held c.in-Some.row found c.in-Some-parent.parent c.in-Some-parent.is c.if-not-core.false good c.in-Ok.listed c.in-Ok.ensures.listed c.in-Ok-find_entry.found
-          (first_held c.args.name.now c.name_field-field.result c.in-Ok.listed.table c.in-Ok-find_entry.found held (g.S.ReadBytes.image c.find_listed.new.space) c.in-Ok.ensures.reads.bytes c.name_field-field.ensures c.in-Ok-find_entry.ensures.told)
-          c.write_name.result (sym c.is_another.ensures ∙ c.if-is_another.false) _ _ _ (omega (arith, c.in-Ok.ensures.soon.faults, c.in-Ok-find_entry.ensures.reads.effect.faults)) c.write_name.ensures.writes.cause;
+          c.in-Ok.ensures.soon (reads_then _ 4 _ _ _ _ c.in-Ok-find_name.ensures.reads.effect c.write_name.ensures.writes.effect (omega arith));
+      cause = write_cause c.args.core.now c.args.node c.args.name.now held c.in-Some.row found c.in-Some-parent.parent c.in-Some-parent.is c.if-not-core.false good c.in-Ok.listed c.in-Ok.ensures.listed c.in-Ok-find_name.found
+          (first_held c.args.name.now c.name_field-field.result c.in-Ok.listed.table c.in-Ok-find_name.found held (g.S.ReadBytes.image c.find_listed.new.space) c.in-Ok.ensures.reads.bytes c.name_field-field.ensures c.in-Ok-find_name.ensures.told)
+          c.write_name.result (sym c.is_another.ensures ∙ c.if-is_another.false) _ _ _ (omega (arith, c.in-Ok.ensures.soon.faults, c.in-Ok-find_name.ensures.reads.effect.faults)) c.write_name.ensures.writes.cause;
     }
 
 pub returns-clause-reached : goal.returns-clause-reached
 returns-clause-reached g c =
     on_ok_weaker c.write_name.result
     (λ w. name_reached c.args.core.now c.args.node c.args.name.now c.in-Some.row (sym c.get.ensures ∙ c.in-Some.is) c.in-Some-parent.parent c.in-Some-parent.is c.in-Ok.listed (g.S.ReadBytes.image c.args.space.now) c.in-Ok.ensures.listed
-    (g.S.ReadBytes.waiting c.args.space.now) (g.S.ReadBytes.waiting c.find_entry.new.bytes) (g.S.ReadBytes.waiting c.write_name.new.space) c.entry.result (c.in-Ok-find_entry.ensures.reads.waits ∙ c.in-Ok.ensures.reads.waits) c.entry.ensures w)
+    (g.S.ReadBytes.waiting c.args.space.now) (g.S.ReadBytes.waiting c.find_name.new.bytes) (g.S.ReadBytes.waiting c.write_name.new.space) c.entry.result (c.in-Ok-find_name.ensures.reads.waits ∙ c.in-Ok.ensures.reads.waits) c.entry.ensures w)
     c.write_name.ensures.waits
+
+pub find_name-requires-clause-known : goal.find_name-requires-clause-known
+find_name-requires-clause-known g c =
+    let core = c.args.core.now in
+    let held = g.S.ReadBytes.image c.args.space.now in
+    known_table (λ list. list.now) core held _ c.in-Some-parent.parent c.in-Ok.listed.table c.in-Ok.ensures.listed.table c.in-Ok.ensures.reads.bytes c.args.known
+    (known_siblings (λ list. list.now) core held c.args.node.serial c.in-Some.row c.in-Some-parent.parent (sym c.get.ensures ∙ c.in-Some.is) c.in-Some-parent.is c.args.known c.requires.known)

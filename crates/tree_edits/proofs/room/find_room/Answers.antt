@@ -1,13 +1,14 @@
 use Rattle.std.proofs.Common.{◌∙◌, refl, sym, subst, true, false, None, Some, Ok}
 use Rattle.adf_format.specs.Fields.{text_field}
-use Rattle.cg_io.proofs.ReadLaws.{rose_later}
+use Rattle.cg_io.proofs.ReadLaws.{reads_more, rose_later}
 use Rattle.node_reads.specs.declared.find.Wanted.TheVariants.{Name}
 use Rattle.tree_edits.specs.Listed.{FindsFirst}
 use Rattle.tree_edits.specs.Room.{HasRoom, IsRoomRefusal}
-use Rattle.tree_edits.proofs.Causes.{row_there}
+use Rattle.tree_edits.proofs.Causes.{row_there, header_blocks}
 use Rattle.tree_edits.proofs.NameCauses.{header_unread, table_unread, named_table, first_held}
 use Rattle.tree_edits.proofs.Rooms.{refused_none, refused_fault, refused_unread, refused_link, refused_read_only, refused_name, refused_label, refused_taken, refused_room}
-use Rattle.tree_edits.proofs.RoomCauses.{table_cause, header_read, table_read, soon, says_kind, asked, room_cause}
+use Rattle.tree_edits.proofs.KnownNames.{known_table, known_soon}
+use Rattle.tree_edits.proofs.RoomCauses.{table_cause, table_is, header_read, table_read, soon, says_kind, asked, room_cause}
 use Rattle.tree_edits.proofs.room.find_room.Goals as goal
 
 pub returns-in-None-clause-refused : goal.returns-in-None-clause-refused
@@ -128,21 +129,21 @@ returns-in-Err-child_table-clause-reads g c =
           (table_unread c.args.core.now.wide held c.in-Some.row.place _ _ c.in-Ok.header header c.in-Err-child_table.error c.in-Err-child_table.ensures.broken);
     }
 
-pub returns-in-Err-find_entry-clause-refused : goal.returns-in-Err-find_entry-clause-refused
-returns-in-Err-find_entry-clause-refused g c = refused_fault c.args.core.now c.args.at c.args.name.now c.args.label.now c.in-Some.row (sym c.get.ensures ∙ c.in-Some.is) (g.S.ReadBytes.image c.args.space.now)
+pub returns-in-Err-find_name-clause-refused : goal.returns-in-Err-find_name-clause-refused
+returns-in-Err-find_name-clause-refused g c = refused_fault c.args.core.now c.args.at c.args.name.now c.args.label.now c.in-Some.row (sym c.get.ensures ∙ c.in-Some.is) (g.S.ReadBytes.image c.args.space.now)
 
-pub returns-in-Err-find_entry-clause-reads : goal.returns-in-Err-find_entry-clause-reads
-returns-in-Err-find_entry-clause-reads g c =
+pub returns-in-Err-find_name-clause-reads : goal.returns-in-Err-find_name-clause-reads
+returns-in-Err-find_name-clause-reads g c =
     let held = g.S.ReadBytes.image c.args.space.now in
     let found = sym c.get.ensures ∙ c.in-Some.is in
     let header = c.in-Ok.ensures.header in
     let named_by = (named_table c.args.core.now.wide held c.in-Some.row.place c.in-Ok.header header (Ok c.in-Ok-child_table.table) c.in-Ok-child_table.ensures.table c.in-Ok-child_table.ensures.kept) in
     record {
-      sound = c.in-Err-find_entry.ensures.reads.sound;
-      bytes = c.in-Err-find_entry.ensures.reads.bytes ∙ c.in-Ok.ensures.reads.bytes;
-      waits = c.in-Err-find_entry.ensures.reads.waits ∙ c.in-Ok.ensures.reads.waits;
-      effect = table_read c.args.core.now c.args.at c.args.name.now c.args.label.now held c.in-Some.row found c.in-Ok-child_table.table named_by _ _ _ c.in-Ok.ensures.reads.effect c.in-Err-find_entry.ensures.reads.effect;
-      cause = (row_there _ c.in-Some.row found, rose_later _ _ _ c.in-Ok.ensures.reads.effect.faults c.in-Err-find_entry.ensures.reads.cause);
+      sound = c.in-Err-find_name.ensures.reads.sound;
+      bytes = c.in-Err-find_name.ensures.reads.bytes ∙ c.in-Ok.ensures.reads.bytes;
+      waits = c.in-Err-find_name.ensures.reads.waits ∙ c.in-Ok.ensures.reads.waits;
+      effect = table_read c.args.core.now c.args.at c.args.name.now c.args.label.now held c.in-Some.row found c.in-Ok-child_table.table named_by _ _ _ c.in-Ok.ensures.reads.effect c.in-Err-find_name.ensures.reads.effect;
+      cause = (row_there _ c.in-Some.row found, rose_later _ _ _ c.in-Ok.ensures.reads.effect.faults c.in-Err-find_name.ensures.reads.cause);
     }
 
 pub returns-in-Ok-Some-clause-refused : goal.returns-in-Ok-Some-clause-refused
@@ -223,3 +224,17 @@ returns-in-Ok-room_for-clause-reads g c =
       effect = table_read c.args.core.now c.args.at c.args.name.now c.args.label.now held c.in-Some.row found c.in-Ok-child_table.table named_by _ _ _ c.in-Ok.ensures.reads.effect c.in-Ok-None.ensures.reads.effect;
       cause = tt;
     }
+
+pub find_name-requires-clause-known : goal.find_name-requires-clause-known
+find_name-requires-clause-known g c =
+    let held = g.S.ReadBytes.image c.args.space.now in
+    let found = sym c.get.ensures ∙ c.in-Some.is in
+    let header = c.in-Ok.ensures.header in
+    let named_by = (named_table c.args.core.now.wide held c.in-Some.row.place c.in-Ok.header header (Ok c.in-Ok-child_table.table) c.in-Ok-child_table.ensures.table c.in-Ok-child_table.ensures.kept) in
+    known_table (λ list. list.now) c.args.core.now held _ c.args.at.serial c.in-Ok-child_table.table (table_is c.args.core.now c.args.at c.args.name.now c.args.label.now held c.in-Some.row found c.in-Ok-child_table.table named_by)
+    c.in-Ok.ensures.reads.bytes c.args.known c.requires.known
+
+pub returns-in-Ok-room_for-clause-still : goal.returns-in-Ok-room_for-clause-still
+returns-in-Ok-room_for-clause-still g c =
+    known_soon (λ list. list.now) g.S.ReadBytes.state c.args.space.now c.read_header.new.bytes c.find_name.new.bytes 2 c.in-Ok-child_table.table.count c.args.known
+    (reads_more _ 2 _ _ c.in-Ok.ensures.reads.effect (header_blocks c.args.core.now.wide c.in-Some.row.place)) c.in-Ok-None.ensures.still

@@ -3,9 +3,11 @@ use Rattle.std.specs.Prelude.{◌==◌}
 use Rattle.cg_io.proofs.ReadLaws.{few_only, only_then}
 use Rattle.node_reads.specs.Reads.{IsUnread}
 use Rattle.tree_edits.specs.declared.room.Parent.{Parent}
+use Rattle.tree_edits.specs.Listed.{IsTableOf}
 use Rattle.tree_edits.proofs.Causes.{row_there}
+use Rattle.tree_edits.proofs.KnownNames.{known_table}
 use Rattle.tree_moves.specs.Movable.{IsSource, SourceBreaks, HasMoveRoom, LacksMoveRoom, MayMove, IsMoveNear}
-use Rattle.tree_moves.proofs.Found.{target_is_cause, parent_is_cause, fault_is_cause, source_is_cause, duplicate_is_cause, room_is_cause, may_move, near_is, looks_again, near_whole}
+use Rattle.tree_moves.proofs.Found.{target_is_cause, parent_is_cause, fault_is_cause, source_is_cause, duplicate_is_cause, room_is_cause, may_move, near_is, list_is, looks_again, near_whole}
 use Rattle.tree_moves.proofs.place.find_move.Goals as goal
 
 pub returns-in-Err-clause-reads : goal.returns-in-Err-clause-reads
@@ -110,3 +112,14 @@ returns-in-Err-has_room-clause-reads g c =
           (looks_again held (g.S.ReadBytes.image c.find_source.new.space) c.with_list-to.result _ c.in-Ok-find_source.source.name c.own_entry-own.result _ c.in-Ok-is_taken.taken false (c.in-Ok-find_source.ensures.reads.bytes ∙ c.in-Ok.ensures.reads.bytes) c.with_list-to.ensures c.own_entry-own.ensures c.if-taken.false c.in-Ok-is_taken.ensures.taken)
           _ _ c.in-Err-has_room.error (subst (λ (to : Parent). LacksMoveRoom c.args.core.now c.args.node c.in-Some.row to c.in-Err-has_room.error) c.with_list-to.ensures c.in-Err-has_room.ensures.lacks);
     }
+
+pub is_taken-requires-clause-known : goal.is_taken-requires-clause-known
+is_taken-requires-clause-known g c =
+    let core = c.args.core.now in
+    let held = g.S.ReadBytes.image c.args.space.now in
+    let last : Bool = c.in-Ok-find_parent.parent == c.args.at.serial in
+    known_table (λ list. list.now) core held _ c.args.at.serial c.with_list-to.result.table
+    (subst (λ (to : Parent). IsTableOf core held c.args.at.serial to.table) (sym c.with_list-to.ensures)
+    (list_is core c.args.at held c.in-Some.row c.in-Ok.target c.in-Ok.ensures.target c.in-Ok-find_parent.parent c.in-Ok-find_source.source
+    (subst (λ h. IsSource core h c.in-Some.row c.in-Ok-find_parent.parent c.in-Ok-find_source.source) c.in-Ok.ensures.reads.bytes c.in-Ok-find_source.ensures.source) last refl))
+    (c.in-Ok-find_source.ensures.reads.bytes ∙ c.in-Ok.ensures.reads.bytes) c.args.known c.requires.known
