@@ -29,7 +29,7 @@ use Rattle.tree_edits.specs.Listed.{IsTableOf}
 use Rattle.tree_edits.specs.Rows.{Means, row_of}
 use Rattle.tree_edits.specs.declared.memory.Core.{Core}
 use Rattle.tree_edits.specs.declared.rows.Row.{Row}
-use Rattle.adf_tree.proofs.EditsAnswer.{table_reads}
+use Rattle.tree_edits.proofs.TableReads.{table_reads}
 use Rattle.adf_tree.proofs.HeaderRules.{header_rule}
 use Rattle.adf_tree.specs.Asks.{IsAskedCause, IsLookCause, IsPathCause, IsStayCause, enters_at, stays_at, stays_if}
 

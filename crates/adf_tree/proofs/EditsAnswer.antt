@@ -23,8 +23,6 @@ use Rattle.adf_model.specs.declared.tree.NodeId.{NodeId}
 use Rattle.cg_io.specs.Answers.{AnswersWrite}
 use Rattle.cg_io.specs.Blocks.{Both, ReadsFew}
 use Rattle.cg_io.specs.Waits.{how_many}
-use Rattle.node_reads.specs.declared.header.ChildTable.{ChildTable}
-use Rattle.node_reads.specs.Entries.{pieces_of}
 use Rattle.node_reads.specs.Headers.{table_rows}
 use Rattle.adf_records.specs.declared.NodeHeader.{NodeHeader}
 use Rattle.tree_laws.specs.Pays.{edit_blocks}
@@ -41,6 +39,7 @@ use Rattle.tree_edits.specs.Rows.{AreNear, Means, IsRowOf}
 use Rattle.tree_edits.specs.Waiting.{Reaches}
 use Rattle.tree_edits.proofs.Kids.{count_is, kids_are}
 use Rattle.cg_io.proofs.ReadLaws.{few_only, only_none}
+use Rattle.tree_edits.proofs.TableReads.{table_reads}
 use Rattle.adf_tree.proofs.HeaderRules.{header_rule}
 use Rattle.adf_tree.specs.Steps.{EditAnswers, IsStepCause, IsWithinCost}
 
@@ -146,10 +145,6 @@ label_of_none core node label (Some image) none = λ tree p m.
     entry_refuses core.writable tree (SetLabel node label) (ap (λ (o : Option Node). not (is_some o) || false) (not_live core node image tree p m none))
 
 -- ---- the answers
-
-pub table_reads : (IsIts : ChildTable → Type 0) (times few : ℕ) (old new : DeviceState) → ReadsTable IsIts times few old new → OnlyReads old new
-table_reads IsIts times few old new (inl r) = few_only few old new r
-table_reads IsIts times few old new (inr r) = few_only (2 * times * pieces_of r.0.count + few) old new r.2
 
 pub same_core : (core : Core) → KeepsCore core core
 same_core core = record { rows = refl; heap = refl; limit = refl; wide = refl; writable = refl }

@@ -61,7 +61,7 @@ fn new_name<S: Space>(
     ensures { EditAnswers S.is_sound S.image S.state S.waiting (Edit.Rename node name.now)
         core.old core.new space.old space.new result }
 {
-    match rename(space, core, node, name) {
+    match rename(space, core, node, name, None) {
         Ok(()) => Ok(None),
         Err(error) => Err(error),
     }
@@ -81,7 +81,7 @@ fn new_node<S: Space>(
     ensures { EditAnswers S.is_sound S.image S.state S.waiting (Edit.Create at name.now label.now)
         core.old core.new space.old space.new result }
 {
-    match create(space, core, at, name, label) {
+    match create(space, core, at, name, label, None) {
         Ok(serial) => Ok(Some(serial)),
         Err(error) => Err(error),
     }
@@ -103,7 +103,7 @@ fn new_link<S: Space>(
     ensures { EditAnswers S.is_sound S.image S.state S.waiting
         (Edit.Link at name.now file.now path.now) core.old core.new space.old space.new result }
 {
-    match link(alloc, space, core, at, name, file, path) {
+    match link(alloc, space, core, at, name, file, path, None) {
         Ok(serial) => Ok(Some(serial)),
         Err(error) => Err(error),
     }
@@ -122,7 +122,7 @@ fn move_node<S: Space>(
     ensures { EditAnswers S.is_sound S.image S.state S.waiting (Edit.Move node at)
         core.old core.new space.old space.new result }
 {
-    match move_to(space, core, node, at) {
+    match move_to(space, core, node, at, None) {
         Ok(()) => Ok(None),
         Err(error) => Err(error),
     }

@@ -1,6 +1,6 @@
 -- The children that are kept of a node, beside the table that has them.
-use Rattle.std.proofs.Common.{◌≡◌, ℕ, refl, sym, ◌∙◌, ap, arith, List, [], length, get_or, map, ◌<◌, Option, None, Some, length-map}
-use Rattle.std.proofs.lemmas.List.{get_or-map}
+use Rattle.std.proofs.Common.{◌≡◌, ℕ, refl, sym, ◌∙◌, ap, arith, List, [], length, get_or, map, ◌<◌, Option, None, Some}
+use Rattle.std.proofs.lemmas.List.{get_or-map, length-map}
 use Rattle.std.proofs.lemmas.Option.{slice_get-get_or}
 use Rattle.std.specs.Prelude.{IfSome, slice_get}
 use Rattle.adf_format.specs.Placement.{Placement}
@@ -32,7 +32,7 @@ module _ (image : List ℕ) (core : Core) (names : NamesState) (has : HasNames c
 
     is_list : IsListOf image table list
     is_list = record {
-      many = ap length kept ∙ length-map (entry_in tree) own ∙ sym count;
+      many = ap length kept ∙ length-map own (entry_in tree) ∙ sym count;
       named = λ i lt.
           let inside : i < length own = omega (arith, lt, count) in
           (entry_says image core serial its.above its.found tree p m table its.named i (get_or own i 0) (slice_get-get_or own i 0 inside)).0

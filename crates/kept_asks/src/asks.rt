@@ -1,6 +1,6 @@
 //! The child of a name, and the answer to a query on a node.
 
-ghost use Rattle.std.specs.Prelude.{◌≡◌, ◌+◌, ◌≤◌, ◌^◌, List, true, map, Ok, IfOk, IfErr, IsSome, Some, ⊥};
+ghost use Rattle.std.specs.Prelude.{◌≡◌, ◌+◌, ◌≤◌, ◌^◌, List, true, map, Ok, IfOk, IfErr, IsSome, Some};
 ghost use Rattle.adf_format.specs.Names.{is_name};
 ghost use Rattle.adf_format.specs.RecordFields.{node_length};
 ghost use Rattle.adf_format.specs.Tree.{child_named};

@@ -1,5 +1,5 @@
 -- The first entry of a table with a name, by the children that are kept.
-use Rattle.std.proofs.Common.{◌≡◌, ℕ, refl, sym, ◌∙◌, ap, subst, arith, List, [], length, get_or, ◌+◌, ◌*◌, ◌≤◌, ◌<◌, Bool, true, false, Option, None, Some}
+use Rattle.std.proofs.Common.{◌≡◌, ℕ, sym, ◌∙◌, ap, subst, arith, List, [], length, get_or, ◌≤◌, ◌<◌, Bool, true, false, Option, None, Some}
 use Rattle.std.proofs.lemmas.Grind.{common_steps}
 use Rattle.std.proofs.lemmas.List.{get_or-map}
 use Rattle.std.proofs.lemmas.List.Quantifiers.{position-Some}
@@ -9,7 +9,6 @@ use Rattle.std.proofs.lemmas.Slice.Eq.{bytes_eq-Decides}
 use Rattle.std.specs.Prelude.{IfSome, bytes_eq}
 use Rattle.std.specs.List.{position, position_or_len}
 use Rattle.std.specs.Map.{keys_of}
-use Rattle.adf_format.specs.FirstFault.{entry_name}
 use Rattle.adf_model.proofs.Basics.{not_true, false_of}
 use Rattle.cg_io.specs.Blocks.{ReadsFew}
 use Rattle.cg_io.specs.Device.{DeviceState}

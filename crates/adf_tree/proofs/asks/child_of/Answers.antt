@@ -1,7 +1,7 @@
 use Rattle.std.specs.Prelude.{None, Some}
 use Rattle.adf_tree.proofs.AskLooks.{child_looks, look_on_path, tells_on}
 use Rattle.adf_tree.proofs.AskWalks.{child_found, never_refused}
-use Rattle.adf_tree.proofs.EditsAnswer.{table_reads}
+use Rattle.tree_edits.proofs.TableReads.{table_reads}
 use Rattle.adf_tree.proofs.asks.child_of.Goals as goal
 
 pub returns-in-Ok-Some-clause-told : goal.returns-in-Ok-Some-clause-told
