@@ -1,5 +1,5 @@
 use Rattle.adf_tree.proofs.AskLooks.{looks_child}
-use Rattle.adf_tree.proofs.EditsAnswer.{table_reads}
+use Rattle.tree_edits.proofs.TableReads.{table_reads}
 use Rattle.adf_tree.proofs.AskEnds.{broken_looks, looks_end, memory_looks, names_of, only_looks, other_hints}
 use Rattle.adf_tree.proofs.HeaderReads.{read_works}
 use Rattle.adf_tree.specs.Files.{state_of}
