@@ -257,7 +257,7 @@ fn init_writes_once_and_tells_its_faults(rt: HostRuntime) -> Result<(), Fail> {
     Ok(())
 }
 
-static OF_REPORTS: [Run; 3] = [
+static OF_REPORTS: [Run; 7] = [
     Run {
         name: "a fresh file is linted and not written",
         words: "lint a.adf",
@@ -286,6 +286,51 @@ static OF_REPORTS: [Run; 3] = [
         fault: Fault::Read(1),
         status: Status::DeviceFault,
         printed: b"E02 ReadFault\n",
+        left: FRESH_LEFT,
+    },
+    Run {
+        name: "the lines of a fresh file are printed, and it is not written",
+        words: "tree a.adf",
+        held: FRESH_FILE,
+        input: b"",
+        fault: Fault::Nothing,
+        status: Status::Done,
+        printed: b"/ Root%20Node%20of%20ADF%20File MT - none\n",
+        left: FRESH_LEFT,
+    },
+    Run {
+        name: "a failed read of the opening for the lines of a tree",
+        words: "tree a.adf",
+        held: FRESH_FILE,
+        input: b"",
+        fault: Fault::Read(1),
+        status: Status::DeviceFault,
+        printed: b"E02 ReadFault\n",
+        left: FRESH_LEFT,
+    },
+    Run {
+        name: "three bytes hold no tree, and are not written",
+        words: "tree a.adf",
+        held: b"xyz",
+        input: b"",
+        fault: Fault::Nothing,
+        status: Status::No,
+        printed: b"E24 Layout L01 0\n",
+        left: Left {
+            is_read: true,
+            writes: 0,
+            length: 3,
+            texts: &[(0, b"xyz")],
+        },
+    },
+    Run {
+        name: "an output that fails at the lines of a tree",
+        words: "tree a.adf",
+        held: FRESH_FILE,
+        input: b"",
+        fault: Fault::Put(1),
+        status: Status::SinkFault,
+        printed: b"",
         left: FRESH_LEFT,
     },
 ];

@@ -21,7 +21,7 @@ static WRONG_WORDS: [&str; 17] = [
     "init ",
     "init -a",
     "Init a.adf",
-    "tree a.adf",
+    "trees a.adf",
     "init a.adf a.adf",
     "session",
     "session ",
