@@ -1,4 +1,6 @@
 pub mod FollowsEdits
+pub mod KnownLists
+pub mod LookedFirst
 pub mod KeptNames
 pub mod Starting
 pub mod OpenedRows

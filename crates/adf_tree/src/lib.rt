@@ -10,6 +10,7 @@ mod fresh;
 mod groups;
 mod headers;
 mod hints;
+mod known;
 mod looks;
 mod making;
 mod maps;

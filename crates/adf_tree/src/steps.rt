@@ -1,5 +1,6 @@
 //! Edits in work.
 
+ghost use Rattle.std.specs.Prelude.{◌≡◌, false};
 ghost use Rattle.adf_tree.specs.Reached.{with_reached};
 ghost use Rattle.adf_tree.specs.Files.{IsWorking, state_of};
 ghost use Rattle.adf_tree.specs.Steps.{StepEnds};
@@ -34,12 +35,34 @@ impl<D: Device> AdfFile<D> {
         if self.broken {
             return Err(AdfError::Broken);
         }
+        match self.know_parent(edit, there) {
+            Ok(()) => self.step_there(edit, there),
+            Err(error) => {
+                self.undo();
+                Err(error)
+            }
+        }
+    }
+
+    // The same, once the children of its parent were looked for.
+    fn step_there(
+        &mut self,
+        edit: &Edit,
+        there: Option<NodeId>,
+    ) -> Result<Option<u64>, AdfError>
+        requires sound { IsWorking D.state self.old }
+        requires live { self.old.broken ≡ false }
+        ensures sound { IsWorking D.state self.new }
+        ensures ends { StepEnds (with_reached edit.now there) result (state_of D.state self.old)
+            (state_of D.state self.new) }
+    {
         let above = above(&self.core.rows, edit);
         match do_edit(
             self.alloc,
             &mut self.draft,
             &mut self.core,
             &mut self.hints,
+            &self.names,
             edit,
             there,
         ) {
