@@ -52,11 +52,7 @@ impl<D: Device> AdfFile<D> {
     /// Keeps the children of the node that an edit gives a child: its table is read whole where they are not kept.
     ///
     /// It is refused where a read fails that the edit too would need. Where memory is wanting nothing is kept.
-    pub(crate) fn know_parent(
-        &mut self,
-        edit: &Edit,
-        there: Option<NodeId>,
-    ) -> Result<(), AdfError>
+    pub(crate) fn know_parent(&mut self, edit: &Edit, there: Option<NodeId>) -> Result<(), AdfError>
         requires sound { IsWorking D.state self.old }
         requires live { self.old.broken ≡ false }
         ensures sound { IsWorking D.state self.new }

@@ -45,11 +45,7 @@ impl<D: Device> AdfFile<D> {
     }
 
     // The same, once the children of its parent were looked for.
-    fn step_there(
-        &mut self,
-        edit: &Edit,
-        there: Option<NodeId>,
-    ) -> Result<Option<u64>, AdfError>
+    fn step_there(&mut self, edit: &Edit, there: Option<NodeId>) -> Result<Option<u64>, AdfError>
         requires sound { IsWorking D.state self.old }
         requires live { self.old.broken ≡ false }
         ensures sound { IsWorking D.state self.new }
